@@ -1,0 +1,20 @@
+-- The shape of every contract: a call is refused and leaves all as it was, or does its work. Assumes nothing.
+use Rattle.std.specs.declared.option.Option.{Option}
+use Rattle.std.specs.declared.option.Option.the-variants.{Some, None}
+use Rattle.std.specs.declared.result.Result.{Result}
+use Rattle.std.specs.declared.result.Result.the-variants.{Ok, Err}
+
+-- the answer of a call that is refused by f, if there is one
+abbrev pub answerOf : {F : Type 0} → Option F → Result (Unit {0}) F
+answerOf None = Ok tt
+answerOf (Some f) = Err f
+
+-- what is left: as it was where there is a refusal
+abbrev pub unlessFault : {F X : Type 0} → Option F → X → X → X
+unlessFault None was new = new
+unlessFault (Some f) was new = was
+
+-- the first refusal of two
+abbrev pub orElse : {F : Type 0} → Option F → Option F → Option F
+orElse None g = g
+orElse (Some f) g = Some f
