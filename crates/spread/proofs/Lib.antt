@@ -1,1 +1,6 @@
 pub mod Weights
+pub mod Running
+pub mod Prefixes
+pub mod Additive
+pub mod Near
+pub mod Refusals

@@ -44,5 +44,5 @@ line-bounded g a b short low high =
     record {
       few = omega arith;
       small = all-from-getD (λ w. w ≤ 10000000000) (line g a b) 0
-        (λ i h. omega (arith, getD-map-counting (lineAt g a b) 1 g i (1 + i) 0 (omega arith) refl, line-small g a b (1 + i) short low high (omega arith)));
+          (λ i h. omega (arith, getD-map-counting (lineAt g a b) 1 g i (1 + i) 0 (omega arith) refl, line-small g a b (1 + i) short low high (omega arith)));
     }

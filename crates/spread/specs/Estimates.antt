@@ -1,11 +1,17 @@
 -- The value and the code that an estimating key gives. Assumes nothing.
 use mathlib.Core.Bool.{Bool, cond}
+use mathlib.Core.List.{List}
 use Prim.Native.Nat.{ℕ, _+_, _/_}
-use Rattle.spread.specs.Keys.{atPlace, line}
+use lib.ListN.{length}
+use Rattle.spread.specs.Keys.{atPlace}
 
--- the line's value at place k of a gap of g hours: its weight there divided by g + 1, the fraction dropped
-abbrev pub lineValue : ℕ → ℕ → ℕ → ℕ → ℕ
-lineValue g before after k = atPlace (line g before after) k / (g + 1)
+-- a line of g weights: the weight divided by g + 1, the fraction dropped
+abbrev pub lineValue : List ℕ → ℕ → ℕ
+lineValue ws k = atPlace ws k / (length ws + 1)
+
+-- last week: the number itself
+abbrev pub weekValue : List ℕ → ℕ → ℕ
+weekValue ws k = atPlace ws k
 
 -- the codes: 1 and 2 without a known energy, 3 and 4 with one
 abbrev pub lineCode : Bool → ℕ

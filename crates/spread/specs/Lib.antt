@@ -5,3 +5,7 @@ pub mod Outcome
 pub mod Keys
 pub mod Bounds
 pub mod Estimates
+pub mod Shares
+pub mod Walks
+pub mod Laws
+pub mod Figures

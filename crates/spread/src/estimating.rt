@@ -3,8 +3,8 @@ ghost use mathlib.Core.Path.{_≡_};
 ghost use mathlib.Core.Bool.{Bool};
 ghost use Prim.Native.Nat.{ℕ};
 ghost use Rattle.spread.specs.Units.{metered};
-ghost use Rattle.spread.specs.Keys.{atPlace, clipped};
-ghost use Rattle.spread.specs.Estimates.{lineValue, lineCode, weekCode};
+ghost use Rattle.spread.specs.Keys.{clipped, line};
+ghost use Rattle.spread.specs.Estimates.{lineValue, weekValue, lineCode, weekCode};
 use crate::key::Key;
 use crate::last_week::LastWeek;
 use crate::last_week::LastWeekKey;
@@ -23,18 +23,18 @@ pub trait EstimatingKey: Key {
 }
 
 pub impl EstimatingKey for Line as LineEstimates {
-    ghost value = { λ k place. lineValue (k .gap) (k .before .0) (k .after .0) place };
+    ghost value = { λ k place. lineValue (line (k .gap) (k .before .0) (k .after .0)) place };
 
     ghost code = { λ _ known. lineCode known };
 
     fn estimate(&self, place: usize, known: bool) -> (Metered, u8) {
-        let value = self.weight(place) / (self.gap as u64 + 1);
+        let value = self.weight(place) / (self.len() as u64 + 1);
         (Metered(value), if known { 3 } else { 1 })
     }
 }
 
 pub impl EstimatingKey for LastWeek<'_> as LastWeekEstimates {
-    ghost value = { λ k place. atPlace (clipped (k .numbers .list .now)) place };
+    ghost value = { λ k place. weekValue (clipped (k .numbers .list .now)) place };
 
     ghost code = { λ _ known. weekCode known };
 

@@ -20,6 +20,10 @@ pub impl Key for Flat as FlatKey {
     }
 
     fn weight(&self, place: usize) -> u64 {
-        if place >= 1 && place <= self.count { 1 } else { 0 }
+        if place >= 1 && place <= self.count {
+            1
+        } else {
+            0
+        }
     }
 }

@@ -13,9 +13,10 @@ pub enum Sign {
 }
 
 impl Kwh {
-    // The size of the energy.
+    // The size of the energy: under its sign it is the energy again.
     pub fn size(self) -> u64
-        ensures { λ r. ⌜ r ≡ natAbs (self .0) ⌝ }
+        ensures value { λ r. ⌜ r ≡ natAbs (self .0) ⌝ }
+        ensures back { λ r. ⌜ put (signOf (self .0)) r ≡ self .0 ⌝ }
     {
         self.0.unsigned_abs()
     }

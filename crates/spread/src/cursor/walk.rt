@@ -1,0 +1,77 @@
+// How a cursor begins and how it goes on.
+ghost use mathlib.Core.Path.{_≡_};
+ghost use Prim.Native.Nat.{ℕ, _+_, _-_, _*_, _≤_};
+ghost use lib.IntN.{ℤ, natAbs};
+ghost use Rattle.std.specs.Results.{Cases};
+ghost use Rattle.std.specs.shelf.Lists.{sum};
+ghost use Rattle.std.specs.declared.option.Option.the-variants.{Some, None};
+ghost use Rattle.spread.specs.Keys.{atPlace};
+ghost use Rattle.spread.specs.Shares.{part, running, sizeFault};
+ghost use Rattle.spread.specs.Walks.{walkOf, nextPart, advanced, walked};
+use crate::cursor::Cursor;
+use crate::fault::SpreadFault;
+use crate::key::Key;
+use crate::key::MOST_PLACES;
+use crate::units::Kwh;
+
+// The most that size times whole may be.
+pub const PRODUCT_LIMIT: u64 = 9_000_000_000_000_000_000;
+
+// The sum of the weights of a key.
+fn whole<K: Key>(key: &K) -> u64
+    ensures { λ r. ⌜ r ≡ sum (weights (now (key .entry))) ⌝ }
+{
+    let mut sum: u64 = 0;
+    for i in 0..key.len() {
+        sum += key.weight(i + 1);
+    }
+    sum
+}
+
+// The running share of a size at a prefix of the whole, the fraction dropped.
+fn running_share(size: u64, whole: u64, prefix: u64) -> u64
+    requires within { ⌜ prefix ≤ whole ⌝ }
+    requires limit { ⌜ size * whole ≤ 9000000000000000000 ⌝ }
+    ensures { λ r. ⌜ r ≡ running size whole prefix ⌝ }
+{
+    if whole == 0 { 0 } else { size * prefix / whole }
+}
+
+impl Cursor {
+    // A cursor before the first place of a key.
+    pub fn new<K: Key>(key: &K, total: Kwh) -> Result<Cursor, SpreadFault>
+        ensures { λ r. ⌜ Cases r (λ c. (sizeFault (natAbs (total .0)) (sum (weights (now (key .entry)))) ≡ None) × (walkOf c ≡ walked (total .0) (weights (now (key .entry))) 0)) (λ f. sizeFault (natAbs (total .0)) (sum (weights (now (key .entry)))) ≡ Some f) ⌝ }
+    {
+        let size = total.size();
+        let whole = whole(key);
+        if size != 0 && whole == 0 {
+            return Err(SpreadFault::NoWeight);
+        }
+        if size as u128 * whole as u128 > PRODUCT_LIMIT as u128 {
+            return Err(SpreadFault::TooLarge);
+        }
+        Ok(Cursor {
+            size,
+            sign: total.sign(),
+            whole,
+            passed: 0,
+            place: 0,
+        })
+    }
+
+    // The part at the next place, and 0 past the last. A key that is not the one it began with cannot lead it past the whole.
+    pub fn next_part<K: Key>(&mut self, key: &K) -> Kwh
+        ensures part { λ r. ⌜ r .0 ≡ nextPart (walkOf (now (self .entry))) (atPlace (weights (now (key .entry))) (now (self .entry) .place + 1)) ⌝ }
+        ensures moved { λ _. ⌜ walkOf (now (self .exit)) ≡ advanced (walkOf (now (self .entry))) (atPlace (weights (now (key .entry))) (now (self .entry) .place + 1)) ⌝ }
+        ensures law { λ r. ⌜ ((t : ℤ) (i : ℕ) → walkOf (now (self .entry)) ≡ walked t (weights (now (key .entry))) i → (r .0 ≡ part t (weights (now (key .entry))) i) × (walkOf (now (self .exit)) ≡ walked t (weights (now (key .entry))) (i + 1))) ⌝ }
+    {
+        let passed = self.passed;
+        let weight = key.weight(self.place + 1);
+        let onward = passed.saturating_add(weight).min(self.whole);
+        let low = running_share(self.size, self.whole, passed);
+        let high = running_share(self.size, self.whole, onward);
+        self.passed = onward;
+        self.place = (self.place + 1).min(MOST_PLACES);
+        self.sign.put(high - low)
+    }
+}
