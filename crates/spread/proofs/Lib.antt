@@ -4,3 +4,4 @@ pub mod Prefixes
 pub mod Additive
 pub mod Near
 pub mod Refusals
+pub mod Outcomes

@@ -28,7 +28,7 @@ written t ws es n h = fill-by-all (λ k. kwh (part t ws k)) es (length ws) (kwh 
 pub returns-then-parts-len : need.returns-then-parts-len
 returns-then-parts-len g c =
     let was = c .args .parts .now in
-    let f = fault-places (c .args .total .0) (g .K·Key .weights (c .args .key .now)) (length was) (λ e. c .if-parts-len .taken (omega (arith, e))) in
+    let f = fault-places (c .args .total .0) (g .K·Key .weights (c .args .key .now)) (length was) (λ e. omega arith) in
     rw f (record { answer = refl; parts = refl; law = λ ok. absurd (false≢true ok) })
 
 pub returns-in-Break-cursor : need.returns-in-Break-cursor
