@@ -2,14 +2,14 @@
 use mathlib.Core.Path.{_≡_, refl, sym, ap, subst, _∙_}
 use mathlib.Core.Logic.{_⊎_, inl, inr}
 use mathlib.Core.List.{List, [], _∷_, map, map-map}
-use Prim.Native.Nat.{ℕ, zero, suc, _+_, _-_, _*_, _/_, _≤_, _<_}
+use Prim.Native.Nat.{ℕ, zero, suc, _+_, _-_, _≤_, _<_}
 use native.Mathlib.Omega.{arith}
-use native.Mathlib.Nat.{mul-zero, zero-mul, zero-div, mul-div-cancel, add-mul, mul-add, div-mul-le-self, lt-div-mul-add}
+use native.Mathlib.Nat.{mul-zero, zero-mul, zero-div, mul-div-cancel}
 use native.Mathlib.Numerals.{add-one}
-use lib.IntN.{ℤ, pos, negsuc, negℤ, natAbs, _+ℤ_, _-ℤ_, _*ℤ_, negℤ-+ℤ, negℤ-negℤ}
-use lib.ListN.{length, getD, take}
+use lib.IntN.{ℤ, pos, negsuc, negℤ, natAbs, _+ℤ_, negℤ-+ℤ, negℤ-negℤ}
+use lib.ListN.{length, getD}
 use Rattle.std.specs.Iters.{counting}
-use Rattle.std.specs.shelf.Lists.{sum, folded}
+use Rattle.std.specs.shelf.Lists.{sum}
 use Rattle.std.proofs.shelf.Sums.{folded-push}
 use Rattle.std.proofs.shelf.Counted.{map-counting-more, length-map-counting, getD-map-counting}
 use Rattle.spread.specs.declared.sign.Sign.{Sign}

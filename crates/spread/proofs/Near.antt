@@ -1,11 +1,10 @@
 -- Each part is less than one away from its exact share. Assumes nothing.
-use mathlib.Core.Path.{_≡_, refl, sym, ap, subst, _∙_}
+use mathlib.Core.Path.{_≡_, sym, ap, subst, _∙_}
 use mathlib.Core.List.{List}
 use Prim.Native.Nat.{ℕ, zero, suc, _+_, _-_, _*_, _/_, _≤_, _<_}
 use native.Mathlib.Omega.{arith}
 use native.Mathlib.Nat.{zero-mul, add-mul, mul-add, div-mul-le-self, lt-div-mul-add}
-use lib.IntN.{ℤ, pos, negsuc, negℤ, natAbs, _+ℤ_, _-ℤ_, _*ℤ_, zero-*ℤ, negsuc-*ℤ-pos, negℤ-+ℤ}
-use lib.ListN.{length, getD}
+use lib.IntN.{ℤ, pos, negℤ, natAbs, _+ℤ_, _-ℤ_, _*ℤ_, zero-*ℤ, negsuc-*ℤ-pos, negℤ-+ℤ}
 use Rattle.std.specs.shelf.Lists.{sum}
 use Rattle.std.proofs.shelf.Signed.{ints}
 use Rattle.spread.specs.declared.sign.Sign.{Sign}
@@ -15,7 +14,7 @@ use Rattle.spread.specs.Signs.{signOf, put}
 use Rattle.spread.specs.Shares.{upto, running, rise, part}
 use Rattle.spread.specs.Laws.{Near}
 use Rattle.spread.proofs.Running.{running-rises}
-use Rattle.spread.proofs.Prefixes.{place-more, upto-more, upto-rises}
+use Rattle.spread.proofs.Prefixes.{upto-more, upto-rises}
 use Rattle.spread.proofs.Additive.{put-size, size-turned}
 
 -- two quotients by P, of a and of a + d

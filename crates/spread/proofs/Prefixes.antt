@@ -1,19 +1,19 @@
 -- The sums of the first weights of a key, and a cursor's way over them. Assumes nothing.
-use mathlib.Core.Path.{_≡_, refl, sym, ap, _∙_}
-use mathlib.Core.Logic.{_⊎_, inl, inr, ⊎-elim}
+use mathlib.Core.Path.{_≡_, sym, ap, _∙_}
+use mathlib.Core.Logic.{_⊎_, inr, ⊎-elim}
 use mathlib.Core.List.{List}
-use Prim.Native.Nat.{ℕ, min, _+_, _-_, _*_, _≤_, _<_}
+use Prim.Native.Nat.{ℕ, min, _+_, _-_, _≤_, _<_}
 use native.Mathlib.Omega.{arith}
 use native.Mathlib.Numerals.{add-one}
-use lib.IntN.{ℤ, natAbs}
+use lib.IntN.{ℤ}
 use lib.ListN.{length, getD, take}
 use Rattle.std.specs.shelf.Lists.{sum}
 use Rattle.std.proofs.shelf.Lists.{take-all, take-take}
 use Rattle.std.proofs.shelf.Sums.{sumBy-more, sumBy-le, sumBy-take-le}
 use Rattle.std.proofs.shelf.Tests.{cases-lt}
+use Rattle.spread.specs.Limits.{weightLimit, mostPlaces}
 use Rattle.spread.specs.Keys.{Bounded, atPlace}
-use Rattle.spread.specs.Shares.{upto, running, rise, part}
-use Rattle.spread.specs.Signs.{signOf, put}
+use Rattle.spread.specs.Shares.{upto, part}
 use Rattle.spread.specs.Walks.{onward, nextPart, advanced, walked}
 use Rattle.spread.proofs.Weights.{place-outside}
 
@@ -37,25 +37,25 @@ upto-more ws i = ⊎-elim
     (cases-lt i (length ws))
 
 pub sum-small : (ws : List ℕ) → Bounded ws → sum ws ≤ 7450000000000
-sum-small ws b = omega (arith, sumBy-le (λ x. x) 10000000000 ws (b .small), b .few)
+sum-small ws b = omega (arith, sumBy-le (λ x. x) weightLimit ws (b .small), b .few)
 
 -- the weight that a cursor reads after i places
-pub weight-read : (ws : List ℕ) (i : ℕ) → Bounded ws → atPlace ws (min i 745 + 1) ≡ atPlace ws (i + 1)
+pub weight-read : (ws : List ℕ) (i : ℕ) → Bounded ws → atPlace ws (min i mostPlaces + 1) ≡ atPlace ws (i + 1)
 weight-read ws i b = ⊎-elim
     (λ (h : i < 746). ap (λ k. atPlace ws (k + 1)) (omega arith))
-    (λ (h : 746 ≤ i). place-outside ws (min i 745 + 1) (inr (omega (arith, b .few))) ∙ sym (place-outside ws (i + 1) (inr (omega (arith, b .few)))))
+    (λ (h : 746 ≤ i). place-outside ws (min i mostPlaces + 1) (inr (omega (arith, b .few))) ∙ sym (place-outside ws (i + 1) (inr (omega (arith, b .few)))))
     (cases-lt i 746)
 
 module _ (t : ℤ) (ws : List ℕ) (i : ℕ) (b : Bounded ws) where
-  pub onward-is : onward (walked t ws i) (atPlace ws (min i 745 + 1)) ≡ upto ws (i + 1)
+  pub onward-is : onward (walked t ws i) (atPlace ws (min i mostPlaces + 1)) ≡ upto ws (i + 1)
   onward-is = omega (arith, weight-read ws i b, upto-more ws i, upto-whole ws (i + 1))
 
-  pub next-is : nextPart (walked t ws i) (atPlace ws (min i 745 + 1)) ≡ part t ws i
+  pub next-is : nextPart (walked t ws i) (atPlace ws (min i mostPlaces + 1)) ≡ part t ws i
   unfolding nextPart part
   next-is = rw onward-is
 
-  pub advanced-is : advanced (walked t ws i) (atPlace ws (min i 745 + 1)) ≡ walked t ws (i + 1)
+  pub advanced-is : advanced (walked t ws i) (atPlace ws (min i mostPlaces + 1)) ≡ walked t ws (i + 1)
   advanced-is =
       let e = onward-is in
-      let p : min (min i 745 + 1) 745 ≡ min (i + 1) 745 = omega arith in
+      let p : min (min i mostPlaces + 1) mostPlaces ≡ min (i + 1) mostPlaces = omega arith in
       cc

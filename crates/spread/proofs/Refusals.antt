@@ -1,23 +1,19 @@
 -- Which spreads are refused, and what holds of those that are not. Assumes nothing.
 use mathlib.Core.Path.{_≡_, refl, sym, ap, subst, _∙_}
-use mathlib.Core.Bool.{Bool, true, false, cond, not, _&&_}
+use mathlib.Core.Bool.{cond}
 use mathlib.Core.Logic.{_⊎_, inl, inr}
 use mathlib.Core.List.{List}
-use Prim.Native.Nat.{ℕ, zero, suc, _+_, _*_, _≤_, _<_}
+use Prim.Native.Nat.{ℕ, zero, suc, _<_}
 use native.Mathlib.Omega.{arith}
-use lib.Dec.{eqb, ltb}
-use lib.IntN.{ℤ, pos, negℤ, natAbs}
+use lib.IntN.{ℤ, negℤ, natAbs}
 use lib.ListN.{length, getD}
 use Rattle.std.specs.shelf.Lists.{sum}
-use Rattle.std.specs.declared.option.Option.{Option}
 use Rattle.std.specs.declared.option.Option.the-variants.{Some, None}
 use Rattle.std.proofs.shelf.Ways.{tells}
 use Rattle.std.proofs.shelf.Tests.{eq-eqb, ne-eqb}
-use Rattle.spread.specs.declared.fault.SpreadFault.{SpreadFault}
-use Rattle.spread.specs.declared.fault.SpreadFault.the-variants.{Places, NoWeight}
+use Rattle.spread.specs.declared.fault.SpreadFault.the-variants.{Places}
 use Rattle.spread.specs.Outcome.{orElse}
-use Rattle.spread.specs.Units.{kwh}
-use Rattle.spread.specs.Shares.{share, part, sizeFault, placesFault, spreadFault}
+use Rattle.spread.specs.Shares.{share, part, sizeFault, spreadFault}
 use Rattle.spread.specs.Laws.{Near, Lawful}
 use Rattle.spread.proofs.Prefixes.{place-more}
 use Rattle.spread.proofs.Additive.{adds-up, turns, size-turned, share-length, share-at}

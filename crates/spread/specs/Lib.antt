@@ -1,3 +1,4 @@
+pub mod Limits
 pub mod Units
 pub mod Signs
 pub mod Faults

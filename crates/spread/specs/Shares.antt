@@ -1,5 +1,5 @@
 -- The one rule by which a signed total is spread over the weights of a key. Assumes nothing.
-use mathlib.Core.Bool.{Bool, cond, not, _&&_}
+use mathlib.Core.Bool.{cond, not, _&&_}
 use mathlib.Core.List.{List, map}
 use Prim.Native.Nat.{ℕ, _+_, _-_, _*_, _/_}
 use lib.Dec.{eqb, ltb}
@@ -9,6 +9,7 @@ use Rattle.std.specs.Iters.{counting}
 use Rattle.std.specs.shelf.Lists.{sum, folded}
 use Rattle.std.specs.declared.option.Option.{Option}
 use Rattle.std.specs.declared.option.Option.the-variants.{Some, None}
+use Rattle.spread.specs.Limits.{productLimit}
 use Rattle.spread.specs.declared.fault.SpreadFault.{SpreadFault}
 use Rattle.spread.specs.declared.fault.SpreadFault.the-variants.{Places, TooLarge, NoWeight}
 use Rattle.spread.specs.declared.units.Kwh.{Kwh}
@@ -47,7 +48,7 @@ placesFault ws n = cond (eqb n (length ws)) None (Some Places)
 -- a size cannot be spread over weights that sum to 0, nor one that is too large over their sum
 abbrev pub sizeFault : ℕ → ℕ → Option SpreadFault
 sizeFault size whole =
-    cond (not (eqb size 0) && eqb whole 0) (Some NoWeight) (cond (ltb 9000000000000000000 (size * whole)) (Some TooLarge) None)
+    cond (not (eqb size 0) && eqb whole 0) (Some NoWeight) (cond (ltb productLimit (size * whole)) (Some TooLarge) None)
 
 -- the refusal of a spread of t over ws into n places
 unfoldable pub spreadFault : ℤ → List ℕ → ℕ → Option SpreadFault

@@ -3,6 +3,7 @@ use Prim.Native.Nat.{ℕ, min, _+_, _-_}
 use mathlib.Core.List.{List}
 use lib.IntN.{ℤ, natAbs}
 use Rattle.std.specs.shelf.Lists.{sum}
+use Rattle.spread.specs.Limits.{mostPlaces}
 use Rattle.spread.specs.declared.sign.Sign.{Sign}
 use Rattle.spread.specs.declared.cursor.Cursor.{Cursor}
 use Rattle.spread.specs.Signs.{signOf, put}
@@ -29,8 +30,8 @@ nextPart w weight = put (w .sign) (running (w .size) (w .whole) (onward w weight
 
 -- the cursor after it: a key has no more than 745 places
 abbrev pub advanced : Walk → ℕ → Walk
-advanced w weight = record { size = w .size; sign = w .sign; whole = w .whole; passed = onward w weight; place = min (w .place + 1) 745 }
+advanced w weight = record { size = w .size; sign = w .sign; whole = w .whole; passed = onward w weight; place = min (w .place + 1) mostPlaces }
 
 -- i places of the weights ws are passed by the parts of t
 abbrev pub walked : ℤ → List ℕ → ℕ → Walk
-walked t ws i = record { size = natAbs t; sign = signOf t; whole = sum ws; passed = upto ws i; place = min i 745 }
+walked t ws i = record { size = natAbs t; sign = signOf t; whole = sum ws; passed = upto ws i; place = min i mostPlaces }

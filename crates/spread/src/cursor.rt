@@ -1,5 +1,6 @@
 // A cursor that gives the parts of a total over any key, one place after another.
 ghost use Prim.Native.Nat.{_*_, _≤_};
+ghost use Rattle.spread.specs.Limits.{productLimit, mostPlaces};
 use crate::sign::Sign;
 
 pub mod walk;
@@ -15,7 +16,7 @@ pub struct Cursor {
     passed: u64,
     // how many places are passed
     place: usize,
-    ghost limit: { size * whole ≤ 9000000000000000000 },
+    ghost limit: { size * whole ≤ productLimit },
     ghost within: { passed ≤ whole },
-    ghost counted: { place ≤ 745 },
+    ghost counted: { place ≤ mostPlaces },
 }

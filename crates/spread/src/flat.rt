@@ -1,5 +1,6 @@
 // The flat key: every weight is 1.
 ghost use Prim.Native.Nat.{_≤_};
+ghost use Rattle.spread.specs.Limits.{mostPlaces};
 ghost use Rattle.spread.specs.Keys.{flat};
 ghost use Rattle.spread.specs.Bounds.{flat-bounded};
 use crate::key::Key;
@@ -7,7 +8,7 @@ use crate::key::Key;
 #[derive(Clone, Copy)]
 pub struct Flat {
     pub(crate) count: usize,
-    ghost few: { count ≤ 745 },
+    ghost few: { count ≤ mostPlaces },
 }
 
 pub impl Key for Flat as FlatKey {

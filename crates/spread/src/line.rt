@@ -1,5 +1,6 @@
 // The line between the reading before a gap and the reading after it.
 ghost use Prim.Native.Nat.{_≤_};
+ghost use Rattle.spread.specs.Limits.{lineLimit, hourLimit};
 ghost use Rattle.spread.specs.Keys.{line};
 ghost use Rattle.spread.specs.Bounds.{line-bounded};
 use crate::key::Key;
@@ -16,9 +17,9 @@ pub struct Line {
     pub(crate) gap: usize,
     pub(crate) before: Metered,
     pub(crate) after: Metered,
-    ghost short: { gap ≤ 8 },
-    ghost low: { before .0 ≤ 2000000 },
-    ghost high: { after .0 ≤ 2000000 },
+    ghost short: { gap ≤ lineLimit },
+    ghost low: { before .0 ≤ hourLimit },
+    ghost high: { after .0 ≤ hourLimit },
 }
 
 pub impl Key for Line as LineKey {

@@ -1,5 +1,6 @@
 // How a cursor begins and how it goes on.
 ghost use mathlib.Core.Path.{_≡_};
+ghost use Rattle.spread.specs.Limits.{productLimit};
 ghost use Prim.Native.Nat.{ℕ, _+_, _-_, _*_, _≤_};
 ghost use lib.IntN.{ℤ, natAbs};
 ghost use Rattle.std.specs.Results.{Cases};
@@ -31,7 +32,7 @@ fn whole<K: Key>(key: &K) -> u64
 // The running share of a size at a prefix of the whole, the fraction dropped.
 fn running_share(size: u64, whole: u64, prefix: u64) -> u64
     requires within { ⌜ prefix ≤ whole ⌝ }
-    requires limit { ⌜ size * whole ≤ 9000000000000000000 ⌝ }
+    requires limit { ⌜ size * whole ≤ productLimit ⌝ }
     ensures { λ r. ⌜ r ≡ running size whole prefix ⌝ }
 {
     if whole == 0 { 0 } else { size * prefix / whole }

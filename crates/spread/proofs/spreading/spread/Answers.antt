@@ -1,24 +1,18 @@
-use mathlib.Core.Path.{_≡_, refl, sym, ap, subst, _∙_}
+use mathlib.Core.Path.{_≡_, refl, ap, _∙_}
 use mathlib.Core.Bool.{true, false}
 use mathlib.Core.List.{List}
-use Prim.Native.Nat.{ℕ, _+_, _<_}
+use Prim.Native.Nat.{ℕ, _<_}
 use native.Mathlib.Omega.{arith}
-use borrow.Author.Needs.{needs}
-use lib.IntN.{ℤ, pos, natAbs}
+use lib.IntN.{ℤ, pos}
 use lib.ListN.{length, getD}
-use Rattle.std.specs.shelf.Lists.{sum}
-use Rattle.std.specs.declared.option.Option.the-variants.{Some, None}
 use Rattle.std.proofs.shelf.Results.{err-from-errBy}
 use Rattle.std.proofs.shelf.Tests.{false≢true}
 use Rattle.std.proofs.shelf.Counted.{fill-by-all}
 use Rattle.std.proofs.shelf.Edits.{fill-by-more}
-use Rattle.spread.specs.Outcome.{answerOf, unlessFault}
 use Rattle.spread.specs.declared.units.Kwh.{Kwh}
 use Rattle.spread.specs.Units.{kwh}
-use Rattle.spread.specs.Shares.{part, share, sizeFault, spreadFault}
-use Rattle.spread.specs.Laws.{Lawful}
+use Rattle.spread.specs.Shares.{part, share}
 use Rattle.spread.proofs.Refusals.{fault-places, fault-size, lawful}
-use Rattle.spread.proofs.spreading.spread.Given.{Over}
 use Rattle.spread.proofs.spreading.spread.Needs as need
 
 written : (t : ℤ) (ws : List ℕ) (es : List Kwh) → length es ≡ length ws → ((k : ℕ) → k < length ws → getD es k (kwh (pos 0)) ≡ kwh (part t ws k)) → es ≡ share t ws

@@ -1,14 +1,14 @@
-use mathlib.Core.Path.{_≡_, refl, ap, _∙_}
-use Prim.Native.Nat.{ℕ, min, _+_, _-_, _^_, _≤_, _<_}
+use mathlib.Core.Path.{_≡_, ap, _∙_}
+use Prim.Native.Nat.{min, _+_, _-_, _^_, _≤_, _<_}
 use native.Mathlib.Omega.{arith}
 use borrow.Author.Needs.{needs}
+use Rattle.spread.specs.Limits.{mostPlaces}
 use Rattle.spread.specs.Keys.{atPlace}
 use Rattle.spread.specs.Shares.{running}
 use Rattle.spread.specs.Signs.{put}
-use Rattle.spread.specs.Walks.{Walk, walkOf, onward, nextPart, advanced, walked}
+use Rattle.spread.specs.Walks.{Walk, walkOf, onward, nextPart, advanced}
 use Rattle.spread.proofs.Running.{running-rises, running-within}
 use Rattle.spread.proofs.Prefixes.{next-is, advanced-is}
-use Rattle.spread.proofs.cursor.Cursor.next_part.Given.{Over}
 use Rattle.spread.proofs.cursor.Cursor.next_part.Needs as need
 
 pub sub-high : need.sub-high
@@ -32,7 +32,7 @@ returns g c =
     let weight = atPlace ws (self .place + 1) in
     let fits : self .whole < 2 ^ 64 = search needs in
     let on : c .min-onward .result ≡ onward (walkOf self) weight = omega (arith, c .weight-weight .ensures) in
-    let at : c .min-self .result ≡ min (self .place + 1) 745 = c .min-self .ensures in
+    let at : c .min-self .result ≡ min (self .place + 1) mostPlaces = c .min-self .ensures in
     let gives : c .put .result .0 ≡ nextPart (walkOf self) weight =
     c .put .ensures ∙ rw (c .running-share-high .ensures, c .running-share-low .ensures) (ap (λ p. put (self .sign) (running (self .size) (self .whole) p - running (self .size) (self .whole) (self .passed))) on) in
     let moves : record { size = self .size; sign = self .sign; whole = self .whole; passed = c .min-onward .result; place = c .min-self .result } ≡ advanced (walkOf self) weight =
