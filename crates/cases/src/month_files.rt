@@ -1,0 +1,84 @@
+// Month files and what they are answered with.
+use monthfile::output::run;
+use std::alloc::Global;
+use std::test::*;
+
+// A file's whole answer, and whether a line of it is no command.
+fn answered(heap: Global, file: &[u8], text: &str, mistaken: bool) -> Result<(), Fail> {
+    let output = run(heap, file)?;
+    check_eq(output.text.as_str(), text)?;
+    check_eq(output.mistaken, mistaken)
+}
+
+#[test]
+fn figures(rt: LibcRuntime) -> Result<(), Fail> {
+    answered(
+        rt.alloc(),
+        b"spread 100 flat 3\nspread -100 flat 3\nspread 7 list 0 5 0 5\nspread 0 list 0 0\nspread 1 list 0 0\nspread 75 line 4 10 20\n",
+        "1: ok 33 33 34\n2: ok -33 -33 -34\n3: ok 0 3 0 4\n4: ok 0 0\n5: refused 33 spread: the total is not 0 and the weights sum to 0\n6: ok 15 17 20 23\n",
+        false,
+    )
+}
+
+#[test]
+fn blank_lines_and_comments(rt: LibcRuntime) -> Result<(), Fail> {
+    answered(rt.alloc(), b"", "", false)?;
+    answered(rt.alloc(), b"\n\n  \t\n# spread 1 flat 1\n", "", false)?;
+    answered(rt.alloc(), b"\n\tspread  -1\tflat 1#2\r\n\nspread 2 flat 1", "2: ok -1\n4: ok 2\n", false)?;
+    answered(rt.alloc(), b"# \xff\xfe\nspread 2 flat 1 # \xff", "2: ok 2\n", false)
+}
+
+#[test]
+fn lines_not_understood(rt: LibcRuntime) -> Result<(), Fail> {
+    answered(rt.alloc(), b"shred 1", "1: error: unknown command\n", true)?;
+    answered(rt.alloc(), b"Spread 1 flat 1", "1: error: unknown command\n", true)?;
+    answered(rt.alloc(), b"\xff\xfe\x00", "1: error: unknown command\n", true)?;
+    answered(rt.alloc(), b"spread 1 round 1", "1: error: unknown key\n", true)?;
+    answered(rt.alloc(), b"spread", "1: error: too few words\n", true)?;
+    answered(rt.alloc(), b"spread 1", "1: error: too few words\n", true)?;
+    answered(rt.alloc(), b"spread 1 flat", "1: error: too few words\n", true)?;
+    answered(rt.alloc(), b"spread 1 line 1 2", "1: error: too few words\n", true)?;
+    answered(rt.alloc(), b"spread 1 flat 1 1", "1: error: too many words\n", true)?;
+    answered(rt.alloc(), b"spread 1 line 1 2 3 4", "1: error: too many words\n", true)
+}
+
+#[test]
+fn words_that_are_no_number(rt: LibcRuntime) -> Result<(), Fail> {
+    answered(rt.alloc(), b"spread one flat 1", "1: error: not a number\n", true)?;
+    answered(rt.alloc(), b"spread - flat 1", "1: error: not a number\n", true)?;
+    answered(rt.alloc(), b"spread --1 flat 1", "1: error: not a number\n", true)?;
+    answered(rt.alloc(), b"spread +1 flat 1", "1: error: not a number\n", true)?;
+    answered(rt.alloc(), b"spread 1.5 flat 1", "1: error: not a number\n", true)?;
+    answered(rt.alloc(), b"spread 1 flat -1", "1: error: not a number\n", true)?;
+    answered(rt.alloc(), b"spread 1 list 1 2 x", "1: error: not a number\n", true)?;
+    answered(rt.alloc(), b"spread 99999999999999999999x flat 1", "1: error: not a number\n", true)
+}
+
+#[test]
+fn numbers_at_the_edges(rt: LibcRuntime) -> Result<(), Fail> {
+    answered(rt.alloc(), b"spread 9223372036854775808 flat 1", "1: error: a number that does not fit\n", true)?;
+    answered(rt.alloc(), b"spread -9223372036854775809 flat 1", "1: error: a number that does not fit\n", true)?;
+    answered(rt.alloc(), b"spread 1 flat 18446744073709551616", "1: error: a number that does not fit\n", true)?;
+    answered(rt.alloc(), b"spread -0 flat 2", "1: ok 0 0\n", false)?;
+    answered(rt.alloc(), b"spread 007 flat 00000000000000000000000002", "1: ok 3 4\n", false)?;
+    answered(rt.alloc(), b"spread 9000000000000000000 flat 1", "1: ok 9000000000000000000\n", false)?;
+    answered(rt.alloc(), b"spread -9000000000000000000 flat 1", "1: ok -9000000000000000000\n", false)?;
+    answered(rt.alloc(), b"spread 0 list", "1: ok\n", false)
+}
+
+#[test]
+fn refusals(rt: LibcRuntime) -> Result<(), Fail> {
+    let large = "1: refused 32 spread: the size of the total times the sum of the weights is over 9,000,000,000,000,000,000\n";
+    answered(rt.alloc(), b"spread 9000000000000000001 flat 1", large, false)?;
+    answered(rt.alloc(), b"spread 9223372036854775807 flat 1", large, false)?;
+    answered(rt.alloc(), b"spread -9223372036854775808 flat 1", large, false)?;
+    let weightless = "1: refused 33 spread: the total is not 0 and the weights sum to 0\n";
+    answered(rt.alloc(), b"spread -9223372036854775808 flat 0", weightless, false)?;
+    answered(rt.alloc(), b"spread 1 list", weightless, false)?;
+    answered(rt.alloc(), b"spread 1 line 0 5 5", weightless, false)?;
+    let no_key = "1: refused 34 spread: over 745 places, a weight over 10,000,000,000, or a line with a gap over 8 or a reading over 2,000,000\n";
+    answered(rt.alloc(), b"spread 1 flat 746", no_key, false)?;
+    answered(rt.alloc(), b"spread 1 flat 18446744073709551615", no_key, false)?;
+    answered(rt.alloc(), b"spread 1 list 10000000001", no_key, false)?;
+    answered(rt.alloc(), b"spread 1 line 9 1 1", no_key, false)
+}

@@ -1,0 +1,5 @@
+pub mod Cuts
+pub mod Breaks
+pub mod Digits
+pub mod Texts
+pub mod Back

@@ -1,0 +1,13 @@
+pub mod Faults
+pub mod Parts
+pub mod Words
+pub mod Lines
+pub mod Numbers
+pub mod Shown
+pub mod Fits
+pub mod Said
+pub mod Commands
+pub mod Meaning
+pub mod Reading
+pub mod Replies
+pub mod Output

@@ -1,0 +1,43 @@
+-- What a whole month file is answered with. Assumes nothing.
+use mathlib.Core.Bool.{Bool, true, false, _||_}
+use mathlib.Core.List.{List, [], _∷_, _++_}
+use Prim.Native.Nat.{ℕ, _+_}
+use lib.Chars.{codes}
+use Rattle.std.specs.Written.{decimal}
+use Rattle.monthfile.specs.Faults.{faultText}
+use Rattle.monthfile.specs.Lines.{linesOf}
+use Rattle.monthfile.specs.Meaning.{LineSaid, blank-line, asks, mistaken, lineOf}
+use Rattle.monthfile.specs.Replies.{replyTo, replyText}
+
+-- the answer to line n by what it means: its number, a colon, a space, the answer, a line break; nothing for a blank line
+abbrev pub meantText : ℕ → LineSaid → List ℕ
+meantText n blank-line = []
+meantText n (asks c) = decimal n ++ (codes ": " ++ (replyText (replyTo c) ++ codes "\n"))
+meantText n (mistaken f) = decimal n ++ (codes ": error: " ++ (faultText f ++ codes "\n"))
+
+abbrev pub isMistake : LineSaid → Bool
+isMistake blank-line = false
+isMistake (asks c) = false
+isMistake (mistaken f) = true
+
+abbrev pub lineText : ℕ → List ℕ → List ℕ
+lineText n line = meantText n (lineOf line)
+
+abbrev pub mistakenLine : List ℕ → Bool
+mistakenLine line = isMistake (lineOf line)
+
+-- the answers to lines that are numbered from n on
+abbrev pub linesText : ℕ → List (List ℕ) → List ℕ
+linesText n [] = []
+linesText n (l ∷ ls) = lineText n l ++ linesText (n + 1) ls
+
+abbrev pub someMistaken : List (List ℕ) → Bool
+someMistaken [] = false
+someMistaken (l ∷ ls) = mistakenLine l || someMistaken ls
+
+-- lines are numbered from 1
+abbrev pub outputOf : List ℕ → List ℕ
+outputOf file = linesText 1 (linesOf file)
+
+abbrev pub mistakenIn : List ℕ → Bool
+mistakenIn file = someMistaken (linesOf file)
