@@ -62,11 +62,17 @@ fn lists_as_keys() -> Result<(), Fail> {
 #[test]
 fn lines_as_keys() -> Result<(), Fail> {
     check_eq(refusal(Line::new(0, Metered(1), Metered(1))), 0)?;
-    check_eq(refusal(Line::new(8, Metered(2_000_000), Metered(2_000_000))), 0)?;
+    check_eq(
+        refusal(Line::new(8, Metered(2_000_000), Metered(2_000_000))),
+        0,
+    )?;
     check_eq(refusal(Line::new(9, Metered(1), Metered(1))), 34)?;
     check_eq(refusal(Line::new(1, Metered(2_000_001), Metered(1))), 34)?;
     check_eq(refusal(Line::new(1, Metered(1), Metered(2_000_001))), 34)?;
-    check_eq(refusal(Line::new(usize::MAX, Metered(u64::MAX), Metered(u64::MAX))), 34)?;
+    check_eq(
+        refusal(Line::new(usize::MAX, Metered(u64::MAX), Metered(u64::MAX))),
+        34,
+    )?;
     let none = Line::new(0, Metered(10), Metered(20))?;
     check_eq(none.len(), 0)?;
     check_eq(none.weight(1), 0)?;

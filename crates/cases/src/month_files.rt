@@ -1,5 +1,12 @@
 // Month files and what they are answered with.
+use monthfile::command::Command;
+use monthfile::command::Weights;
+use monthfile::command::written;
 use monthfile::output::run;
+use monthfile::read::Line;
+use monthfile::read::read_line;
+use spread::units::Kwh;
+use spread::units::Metered;
 use std::alloc::Global;
 use std::test::*;
 
@@ -24,61 +31,277 @@ fn figures(rt: LibcRuntime) -> Result<(), Fail> {
 fn blank_lines_and_comments(rt: LibcRuntime) -> Result<(), Fail> {
     answered(rt.alloc(), b"", "", false)?;
     answered(rt.alloc(), b"\n\n  \t\n# spread 1 flat 1\n", "", false)?;
-    answered(rt.alloc(), b"\n\tspread  -1\tflat 1#2\r\n\nspread 2 flat 1", "2: ok -1\n4: ok 2\n", false)?;
-    answered(rt.alloc(), b"# \xff\xfe\nspread 2 flat 1 # \xff", "2: ok 2\n", false)
+    answered(
+        rt.alloc(),
+        b"\n\tspread  -1\tflat 1#2\r\n\nspread 2 flat 1",
+        "2: ok -1\n4: ok 2\n",
+        false,
+    )?;
+    answered(
+        rt.alloc(),
+        b"# \xff\xfe\nspread 2 flat 1 # \xff",
+        "2: ok 2\n",
+        false,
+    )
 }
 
 #[test]
 fn lines_not_understood(rt: LibcRuntime) -> Result<(), Fail> {
     answered(rt.alloc(), b"shred 1", "1: error: unknown command\n", true)?;
-    answered(rt.alloc(), b"Spread 1 flat 1", "1: error: unknown command\n", true)?;
-    answered(rt.alloc(), b"\xff\xfe\x00", "1: error: unknown command\n", true)?;
-    answered(rt.alloc(), b"spread 1 round 1", "1: error: unknown key\n", true)?;
+    answered(
+        rt.alloc(),
+        b"Spread 1 flat 1",
+        "1: error: unknown command\n",
+        true,
+    )?;
+    answered(
+        rt.alloc(),
+        b"\xff\xfe\x00",
+        "1: error: unknown command\n",
+        true,
+    )?;
+    answered(
+        rt.alloc(),
+        b"spread 1 round 1",
+        "1: error: unknown key\n",
+        true,
+    )?;
     answered(rt.alloc(), b"spread", "1: error: too few words\n", true)?;
     answered(rt.alloc(), b"spread 1", "1: error: too few words\n", true)?;
-    answered(rt.alloc(), b"spread 1 flat", "1: error: too few words\n", true)?;
-    answered(rt.alloc(), b"spread 1 line 1 2", "1: error: too few words\n", true)?;
-    answered(rt.alloc(), b"spread 1 flat 1 1", "1: error: too many words\n", true)?;
-    answered(rt.alloc(), b"spread 1 line 1 2 3 4", "1: error: too many words\n", true)
+    answered(
+        rt.alloc(),
+        b"spread 1 flat",
+        "1: error: too few words\n",
+        true,
+    )?;
+    answered(
+        rt.alloc(),
+        b"spread 1 line 1 2",
+        "1: error: too few words\n",
+        true,
+    )?;
+    answered(
+        rt.alloc(),
+        b"spread 1 flat 1 1",
+        "1: error: too many words\n",
+        true,
+    )?;
+    answered(
+        rt.alloc(),
+        b"spread 1 line 1 2 3 4",
+        "1: error: too many words\n",
+        true,
+    )
+}
+
+#[test]
+fn long_lines(rt: LibcRuntime) -> Result<(), Fail> {
+    let word = vec![in rt.alloc(); b'x'; 100_000]?;
+    answered(
+        rt.alloc(),
+        word.as_slice(),
+        "1: error: unknown command\n",
+        true,
+    )?;
+    let blanks = vec![in rt.alloc(); b' '; 100_000]?;
+    answered(rt.alloc(), blanks.as_slice(), "", false)?;
+    let noise = vec![in rt.alloc(); 255; 100_000]?;
+    answered(
+        rt.alloc(),
+        noise.as_slice(),
+        "1: error: unknown command\n",
+        true,
+    )
+}
+
+// The line of a command, and whether it is read again as one.
+fn written_as(heap: Global, command: Command, line: &str) -> Result<(), Fail> {
+    let text = written(heap, &command)?;
+    check_eq(text.as_str(), line)?;
+    match read_line(heap, text.as_bytes())? {
+        Line::Asks(again) => check_eq(written(heap, &again)?.as_str(), line),
+        Line::Blank => Err(Fail::new("blank")),
+        Line::Mistaken(_) => Err(Fail::new("mistaken")),
+    }
+}
+
+#[test]
+fn written_commands(rt: LibcRuntime) -> Result<(), Fail> {
+    let total = Kwh(i64::MIN);
+    written_as(
+        rt.alloc(),
+        Command::Spread {
+            total,
+            over: Weights::Flat(u64::MAX),
+        },
+        "spread -9223372036854775808 flat 18446744073709551615",
+    )?;
+    let list = [0, 5, u64::MAX].to_vec(rt.alloc())?;
+    written_as(
+        rt.alloc(),
+        Command::Spread {
+            total: Kwh(0),
+            over: Weights::List(list),
+        },
+        "spread 0 list 0 5 18446744073709551615",
+    )?;
+    written_as(
+        rt.alloc(),
+        Command::Spread {
+            total,
+            over: Weights::List(Vec::new(rt.alloc())),
+        },
+        "spread -9223372036854775808 list",
+    )?;
+    let over = Weights::Line {
+        gap: 4,
+        before: Metered(10),
+        after: Metered(20),
+    };
+    written_as(
+        rt.alloc(),
+        Command::Spread {
+            total: Kwh(75),
+            over,
+        },
+        "spread 75 line 4 10 20",
+    )
 }
 
 #[test]
 fn words_that_are_no_number(rt: LibcRuntime) -> Result<(), Fail> {
-    answered(rt.alloc(), b"spread one flat 1", "1: error: not a number\n", true)?;
-    answered(rt.alloc(), b"spread - flat 1", "1: error: not a number\n", true)?;
-    answered(rt.alloc(), b"spread --1 flat 1", "1: error: not a number\n", true)?;
-    answered(rt.alloc(), b"spread +1 flat 1", "1: error: not a number\n", true)?;
-    answered(rt.alloc(), b"spread 1.5 flat 1", "1: error: not a number\n", true)?;
-    answered(rt.alloc(), b"spread 1 flat -1", "1: error: not a number\n", true)?;
-    answered(rt.alloc(), b"spread 1 list 1 2 x", "1: error: not a number\n", true)?;
-    answered(rt.alloc(), b"spread 99999999999999999999x flat 1", "1: error: not a number\n", true)
+    answered(
+        rt.alloc(),
+        b"spread one flat 1",
+        "1: error: not a number\n",
+        true,
+    )?;
+    answered(
+        rt.alloc(),
+        b"spread - flat 1",
+        "1: error: not a number\n",
+        true,
+    )?;
+    answered(
+        rt.alloc(),
+        b"spread --1 flat 1",
+        "1: error: not a number\n",
+        true,
+    )?;
+    answered(
+        rt.alloc(),
+        b"spread +1 flat 1",
+        "1: error: not a number\n",
+        true,
+    )?;
+    answered(
+        rt.alloc(),
+        b"spread 1.5 flat 1",
+        "1: error: not a number\n",
+        true,
+    )?;
+    answered(
+        rt.alloc(),
+        b"spread 1 flat -1",
+        "1: error: not a number\n",
+        true,
+    )?;
+    answered(
+        rt.alloc(),
+        b"spread 1 list 1 2 x",
+        "1: error: not a number\n",
+        true,
+    )?;
+    answered(
+        rt.alloc(),
+        b"spread 99999999999999999999x flat 1",
+        "1: error: not a number\n",
+        true,
+    )
 }
 
 #[test]
 fn numbers_at_the_edges(rt: LibcRuntime) -> Result<(), Fail> {
-    answered(rt.alloc(), b"spread 9223372036854775808 flat 1", "1: error: a number that does not fit\n", true)?;
-    answered(rt.alloc(), b"spread -9223372036854775809 flat 1", "1: error: a number that does not fit\n", true)?;
-    answered(rt.alloc(), b"spread 1 flat 18446744073709551616", "1: error: a number that does not fit\n", true)?;
+    answered(
+        rt.alloc(),
+        b"spread 9223372036854775808 flat 1",
+        "1: error: a number that does not fit\n",
+        true,
+    )?;
+    answered(
+        rt.alloc(),
+        b"spread -9223372036854775809 flat 1",
+        "1: error: a number that does not fit\n",
+        true,
+    )?;
+    answered(
+        rt.alloc(),
+        b"spread 1 flat 18446744073709551616",
+        "1: error: a number that does not fit\n",
+        true,
+    )?;
     answered(rt.alloc(), b"spread -0 flat 2", "1: ok 0 0\n", false)?;
-    answered(rt.alloc(), b"spread 007 flat 00000000000000000000000002", "1: ok 3 4\n", false)?;
-    answered(rt.alloc(), b"spread 9000000000000000000 flat 1", "1: ok 9000000000000000000\n", false)?;
-    answered(rt.alloc(), b"spread -9000000000000000000 flat 1", "1: ok -9000000000000000000\n", false)?;
+    answered(
+        rt.alloc(),
+        b"spread 007 flat 00000000000000000000000002",
+        "1: ok 3 4\n",
+        false,
+    )?;
+    answered(
+        rt.alloc(),
+        b"spread 9000000000000000000 flat 1",
+        "1: ok 9000000000000000000\n",
+        false,
+    )?;
+    answered(
+        rt.alloc(),
+        b"spread -9000000000000000000 flat 1",
+        "1: ok -9000000000000000000\n",
+        false,
+    )?;
     answered(rt.alloc(), b"spread 0 list", "1: ok\n", false)
 }
 
 #[test]
 fn refusals(rt: LibcRuntime) -> Result<(), Fail> {
-    let large = "1: refused 32 spread: the size of the total times the sum of the weights is over 9,000,000,000,000,000,000\n";
-    answered(rt.alloc(), b"spread 9000000000000000001 flat 1", large, false)?;
-    answered(rt.alloc(), b"spread 9223372036854775807 flat 1", large, false)?;
-    answered(rt.alloc(), b"spread -9223372036854775808 flat 1", large, false)?;
+    let large =
+        "1: refused 32 spread: the size of the total times the sum of the weights is over 9,000,000,000,000,000,000\n";
+    answered(
+        rt.alloc(),
+        b"spread 9000000000000000001 flat 1",
+        large,
+        false,
+    )?;
+    answered(
+        rt.alloc(),
+        b"spread 9223372036854775807 flat 1",
+        large,
+        false,
+    )?;
+    answered(
+        rt.alloc(),
+        b"spread -9223372036854775808 flat 1",
+        large,
+        false,
+    )?;
     let weightless = "1: refused 33 spread: the total is not 0 and the weights sum to 0\n";
-    answered(rt.alloc(), b"spread -9223372036854775808 flat 0", weightless, false)?;
+    answered(
+        rt.alloc(),
+        b"spread -9223372036854775808 flat 0",
+        weightless,
+        false,
+    )?;
     answered(rt.alloc(), b"spread 1 list", weightless, false)?;
     answered(rt.alloc(), b"spread 1 line 0 5 5", weightless, false)?;
-    let no_key = "1: refused 34 spread: over 745 places, a weight over 10,000,000,000, or a line with a gap over 8 or a reading over 2,000,000\n";
+    let no_key =
+        "1: refused 34 spread: over 745 places, a weight over 10,000,000,000, or a line with a gap over 8 or a reading over 2,000,000\n";
     answered(rt.alloc(), b"spread 1 flat 746", no_key, false)?;
-    answered(rt.alloc(), b"spread 1 flat 18446744073709551615", no_key, false)?;
+    answered(
+        rt.alloc(),
+        b"spread 1 flat 18446744073709551615",
+        no_key,
+        false,
+    )?;
     answered(rt.alloc(), b"spread 1 list 10000000001", no_key, false)?;
     answered(rt.alloc(), b"spread 1 line 9 1 1", no_key, false)
 }

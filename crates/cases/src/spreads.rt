@@ -48,13 +48,25 @@ fn refused_in_order() -> Result<(), Fail> {
 fn size_limit() -> Result<(), Fail> {
     let key = Numbers::new(&[4, 5])?;
     let mut parts = [Kwh(7), Kwh(7)];
-    check_eq(refusal(spread(&key, Kwh(1_000_000_000_000_000_001), &mut parts)), 32)?;
-    check_eq(refusal(spread(&key, Kwh(-1_000_000_000_000_000_001), &mut parts)), 32)?;
+    check_eq(
+        refusal(spread(&key, Kwh(1_000_000_000_000_000_001), &mut parts)),
+        32,
+    )?;
+    check_eq(
+        refusal(spread(&key, Kwh(-1_000_000_000_000_000_001), &mut parts)),
+        32,
+    )?;
     check_eq(refusal(spread(&key, Kwh(i64::MAX), &mut parts)), 32)?;
     check_eq(refusal(spread(&key, Kwh(i64::MIN), &mut parts)), 32)?;
     check_eq(parts, [Kwh(7), Kwh(7)])?;
-    check_eq(refusal(spread(&key, Kwh(-1_000_000_000_000_000_000), &mut parts)), 0)?;
-    check_eq(parts, [Kwh(-444_444_444_444_444_444), Kwh(-555_555_555_555_555_556)])
+    check_eq(
+        refusal(spread(&key, Kwh(-1_000_000_000_000_000_000), &mut parts)),
+        0,
+    )?;
+    check_eq(
+        parts,
+        [Kwh(-444_444_444_444_444_444), Kwh(-555_555_555_555_555_556)],
+    )
 }
 
 #[test]

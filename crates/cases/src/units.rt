@@ -12,7 +12,10 @@ use std::test::*;
 #[test]
 fn price_times_energy() -> Result<(), Fail> {
     check_eq(Price(5_000).times(Kwh(33)), Some(Money(165_000)))?;
-    check_eq(Price(-1_000_000).times(Kwh(2_980_000_000)), Some(Money(-2_980_000_000_000_000)))?;
+    check_eq(
+        Price(-1_000_000).times(Kwh(2_980_000_000)),
+        Some(Money(-2_980_000_000_000_000)),
+    )?;
     check_eq(Price(0).times(Kwh(i64::MIN)), Some(Money(0)))?;
     check_eq(Price(1).times(Kwh(i64::MIN)), Some(Money(i64::MIN)))?;
     check_eq(Price(-1).times(Kwh(i64::MAX)), Some(Money(-i64::MAX)))?;

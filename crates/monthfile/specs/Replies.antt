@@ -1,10 +1,12 @@
 -- What a command is answered with, and how the answer is written. Assumes nothing.
-use mathlib.Core.List.{List, [], _∷_, _++_}
+use mathlib.Core.Bool.{Bool, not}
+use mathlib.Core.List.{List, _++_}
 use Prim.Native.Nat.{ℕ}
 use lib.Chars.{codes}
 use lib.IntN.{ℤ}
 use lib.ListN.{length}
 use Rattle.std.specs.Joined.{joined}
+use Rattle.std.specs.Options.{isSome}
 use Rattle.std.specs.Of.Vec.{vec-items}
 use Rattle.std.specs.Written.{decimal, signed}
 use Rattle.std.specs.declared.option.Option.{Option}
@@ -51,6 +53,11 @@ keyWeights (say-flat n) = flat n
 keyWeights (say-list ws) = ws
 keyWeights (say-line g a b) = line g a b
 
+-- a key is made of what was said, so that there are parts to hold
+abbrev pub keyMade : Said → Bool
+keyMade (say-spread t k) = not (isSome (keyFault k))
+
+-- the key is made first, then the total is spread over it
 abbrev pub replyTo : Said → Reply
 replyTo (say-spread t k) = replyBy (orElse (keyFault k) (spreadFault t (keyWeights k) (length (keyWeights k)))) (share t (keyWeights k))
 

@@ -8,7 +8,7 @@ use Rattle.monthfile.specs.declared.command.Command.the-variants.{Spread}
 use Rattle.monthfile.specs.declared.command.Weights.{Weights}
 use Rattle.monthfile.specs.declared.command.Weights.the-variants.{Flat, List as Listed, Line}
 
--- a key: so many places, the weights, or a gap with the sizes before and after it
+-- a key: so many places, the weights, or a gap with the readings before and after it
 pub data SaidKey : Type 0 where
   say-flat : ℕ → SaidKey
   say-list : List ℕ → SaidKey

@@ -1,10 +1,11 @@
 // What a command is answered with.
 ghost use mathlib.Core.Path.{_≡_};
-ghost use mathlib.Core.List.{_++_};
+ghost use mathlib.Core.Bool.{true, false};
+ghost use Rattle.std.specs.Results.{isOk};
 ghost use Rattle.std.specs.Vec.{made};
 ghost use Rattle.std.specs.declared.option.Option.the-variants.{Some};
 ghost use Rattle.monthfile.specs.Said.{said};
-ghost use Rattle.monthfile.specs.Replies.{tells, spreadReply, replyTo, reasonText, layerText, replyText};
+ghost use Rattle.monthfile.specs.Replies.{tells, spreadReply, replyTo, keyMade, reasonText, layerText, replyText};
 use crate::command::Command;
 use crate::command::Weights;
 use spread::fault::Layer;
@@ -87,9 +88,10 @@ fn spread_over<K: Key>(heap: Global, key: &K, total: Kwh) -> Result<Answer, Allo
 }
 
 impl Command {
-    // Does what the command asks for.
+    // Does what the command asks for. Only parts take memory.
     pub fn answer(&self, heap: Global) -> Result<Answer, AllocError>
-        ensures { λ r. ⌜ made r (λ a. tells a ≡ replyTo (said (now (self .entry)))) ⌝ }
+        ensures reply { λ r. ⌜ made r (λ a. tells a ≡ replyTo (said (now (self .entry)))) ⌝ }
+        ensures memory { λ r. ⌜ (isOk r ≡ false → keyMade (said (now (self .entry))) ≡ true) ⌝ }
     {
         let Command::Spread { total, over } = self;
         match over {

@@ -14,14 +14,14 @@ use std::alloc::AllocError;
 use std::alloc::Global;
 use std::fmt;
 
-// How a total is divided.
+// The key that a total is spread over, as it is asked for.
 #[derive(Drop)]
 pub enum Weights {
-    // the same for each of so many places
+    // as many places, each with the same weight
     Flat(u64),
     // a weight for each place
     List(Vec<u64>),
-    // on the straight line between the sizes before and after the gap
+    // on the straight line between the readings before and after the gap
     Line {
         gap: u64,
         before: Metered,

@@ -1,7 +1,5 @@
 // A whole month file: each of its lines answered, in order.
 ghost use mathlib.Core.Path.{_≡_};
-ghost use mathlib.Core.Bool.{cond};
-ghost use mathlib.Core.List.{_++_};
 ghost use Rattle.std.specs.Of.String.{string-bytes};
 ghost use Rattle.std.specs.Vec.{made};
 ghost use Rattle.monthfile.specs.Output.{lineText, mistakenLine, outputOf, mistakenIn};
@@ -27,15 +25,24 @@ fn line_answer(heap: Global, number: u64, line: &[u8]) -> Result<Output, AllocEr
     ensures { λ r. ⌜ made r (λ o. (string-bytes (o .text) ≡ lineText number (now (line .entry))) × (o .mistaken ≡ mistakenLine (now (line .entry)))) ⌝ }
 {
     match read_line(heap, line)? {
-        Line::Blank => Ok(Output { text: String::new(heap), mistaken: false }),
+        Line::Blank => Ok(Output {
+            text: String::new(heap),
+            mistaken: false,
+        }),
         Line::Asks(command) => {
             let answer = command.answer(heap)?;
             let text = format!(heap, "{number}: {answer}\n")?;
-            Ok(Output { text, mistaken: false })
+            Ok(Output {
+                text,
+                mistaken: false,
+            })
         }
         Line::Mistaken(fault) => {
             let text = format!(heap, "{number}: error: {fault}\n")?;
-            Ok(Output { text, mistaken: true })
+            Ok(Output {
+                text,
+                mistaken: true,
+            })
         }
     }
 }

@@ -18,7 +18,7 @@ The status is 1 if there is an error line or FILE cannot be read, else 0.
 One command a line; words are separated by spaces or tabs, and # starts a comment.
   spread TOTAL flat N           TOTAL over N equal weights
   spread TOTAL list W W ...     over these weights
-  spread TOTAL line G A B       over the line between readings A and B, G hours apart
+  spread TOTAL line G A B       over the line from reading A to reading B, G hours between them
 ";
 
 // Prints the answers to a month file.

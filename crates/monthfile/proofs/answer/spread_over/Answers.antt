@@ -1,13 +1,12 @@
-use mathlib.Core.Path.{_≡_, refl, sym, ap, _∙_}
-use native.Mathlib.Omega.{arith}
+use mathlib.Core.Path.{_≡_, sym, ap, _∙_}
 use borrow.Author.Needs.{needs}
 use lib.ListN.{length}
 use Rattle.std.specs.declared.option.Option.the-variants.{None}
 use Rattle.std.proofs.shelf.Lists.{refilled-is}
-use Rattle.spread.specs.Outcome.{answerOf, unlessFault}
+use Rattle.spread.specs.Outcome.{unlessFault}
 use Rattle.spread.specs.Shares.{share, spreadFault}
 use Rattle.spread.proofs.Outcomes.{passed}
-use Rattle.monthfile.specs.Replies.{Reply, parts, replyBy}
+use Rattle.monthfile.specs.Replies.{parts, replyBy}
 use Rattle.monthfile.proofs.answer.spread_over.Needs as need
 
 pub returns-in-Ok : need.returns-in-Ok

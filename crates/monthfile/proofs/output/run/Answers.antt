@@ -3,7 +3,6 @@ use mathlib.Core.Bool.{Bool, true, false, _||_}
 use mathlib.Core.List.{List, _∷_, _++_, append-assoc}
 use Prim.Native.Nat.{ℕ, _+_}
 use native.Mathlib.Omega.{arith}
-use borrow.Author.Needs.{needs}
 use Rattle.std.specs.Of.String.{string-bytes}
 use Rattle.monthfile.specs.Lines.{linesOf}
 use Rattle.monthfile.specs.Output.{lineText, linesText, mistakenLine, someMistaken, outputOf}
@@ -27,9 +26,11 @@ loop-line-again c =
     let said = c .in-Continue-answered .ensures tt in
     let bytes = c .in-Continue-push-str .ensures tt .bytes in
     let m : c .if-mistaken .mistaken ≡ (c .loop-line .mistaken || mistakenLine line) =
-        elim (c .if-mistaken .came) [
-          then-mistaken w ↦ w .mistaken-is ∙ w .if-mistaken .taken ∙ sym (ap (λ b. b || mistakenLine line) (w .if-mistaken .taken))
-        | else-mistaken w ↦ w .mistaken-is ∙ said .1 ∙ sym (ap (λ b. b || mistakenLine line) (w .if-mistaken .left)) ] in
-    ( ap (λ (b : List ℕ). b ++ linesText (n + 1) ls) bytes ∙ text-next (string-bytes (c .loop-line .text)) (c .as-str .result .now) line (outputOf (c .args .file .now)) n ls (c .as-str .ensures .value ∙ said .0) (sym (ap (λ (x : List (List ℕ)). string-bytes (c .loop-line .text) ++ linesText n x) cut) ∙ c .loop-line .inv .0)
-    , ap (λ b. b || someMistaken ls) m ∙ or-assoc (c .loop-line .mistaken) (mistakenLine line) (someMistaken ls) ∙ sym (ap (λ x. c .loop-line .mistaken || someMistaken x) cut) ∙ c .loop-line .inv .1
-    , omega (arith, c .in-Some .ensures tt .shorter, c .loop-line .inv .2) )
+    elim (c .if-mistaken .came) [
+      | then-mistaken w ↦ w .mistaken-is ∙ w .if-mistaken .taken ∙ sym (ap (λ b. b || mistakenLine line) (w .if-mistaken .taken))
+      | else-mistaken w ↦ w .mistaken-is ∙ said .1 ∙ sym (ap (λ b. b || mistakenLine line) (w .if-mistaken .left))
+    ] in (
+      ap (λ (b : List ℕ). b ++ linesText (n + 1) ls) bytes ∙ text-next (string-bytes (c .loop-line .text)) (c .as-str .result .now) line (outputOf (c .args .file .now)) n ls (c .as-str .ensures .value ∙ said .0) (sym (ap (λ (x : List (List ℕ)). string-bytes (c .loop-line .text) ++ linesText n x) cut) ∙ c .loop-line .inv .0),
+      ap (λ b. b || someMistaken ls) m ∙ or-assoc (c .loop-line .mistaken) (mistakenLine line) (someMistaken ls) ∙ sym (ap (λ x. c .loop-line .mistaken || someMistaken x) cut) ∙ c .loop-line .inv .1,
+      omega (arith, c .in-Some .ensures tt .shorter, c .loop-line .inv .2),
+    )
