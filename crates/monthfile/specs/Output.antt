@@ -15,14 +15,17 @@ meantText n blank-line = []
 meantText n (asks c) = decimal n ++ (codes ": " ++ (replyText (replyTo c) ++ codes "\n"))
 meantText n (mistaken f) = decimal n ++ (codes ": error: " ++ (faultText f ++ codes "\n"))
 
+-- whether a line is no command, by what it means
 abbrev pub isMistake : LineSaid → Bool
 isMistake blank-line = false
 isMistake (asks c) = false
 isMistake (mistaken f) = true
 
+-- the answer to line n
 abbrev pub lineText : ℕ → List ℕ → List ℕ
 lineText n line = meantText n (lineOf line)
 
+-- whether a line is no command
 abbrev pub mistakenLine : List ℕ → Bool
 mistakenLine line = isMistake (lineOf line)
 
@@ -31,6 +34,7 @@ abbrev pub linesText : ℕ → List (List ℕ) → List ℕ
 linesText n [] = []
 linesText n (l ∷ ls) = lineText n l ++ linesText (n + 1) ls
 
+-- whether one of the lines is no command
 abbrev pub someMistaken : List (List ℕ) → Bool
 someMistaken [] = false
 someMistaken (l ∷ ls) = mistakenLine l || someMistaken ls
@@ -39,5 +43,6 @@ someMistaken (l ∷ ls) = mistakenLine l || someMistaken ls
 abbrev pub outputOf : List ℕ → List ℕ
 outputOf file = linesText 1 (linesOf file)
 
+-- whether a line of the file is no command
 abbrev pub mistakenIn : List ℕ → Bool
 mistakenIn file = someMistaken (linesOf file)

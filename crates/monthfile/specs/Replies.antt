@@ -29,6 +29,7 @@ pub data Reply : Type 0 where
   parts : List Kwh → Reply
   refused : SpreadFault → Reply
 
+-- what an answer tells
 abbrev pub tells : Answer → Reply
 tells (Parts v) = parts (vec-items v)
 tells (Refused f) = refused f
@@ -48,6 +49,7 @@ keyFault (say-flat n) = flatFault n
 keyFault (say-list ws) = listFault ws
 keyFault (say-line g a b) = lineFault g a b
 
+-- the weights of the key that was said
 abbrev pub keyWeights : SaidKey → List ℕ
 keyWeights (say-flat n) = flat n
 keyWeights (say-list ws) = ws
@@ -68,6 +70,7 @@ reasonText TooLarge = codes "the size of the total times the sum of the weights 
 reasonText NoWeight = codes "the total is not 0 and the weights sum to 0"
 reasonText NoKey = codes "over 745 places, a weight over 10,000,000,000, or a line with a gap over 8 or a reading over 2,000,000"
 
+-- the name of a layer
 abbrev pub layerText : Layer → List ℕ
 layerText Spread = codes "spread"
 layerText Month = codes "month"
@@ -77,6 +80,7 @@ layerText Book = codes "book"
 abbrev pub partText : Kwh → List ℕ
 partText e = codes " " ++ signed (e .0)
 
+-- what is written of an answer
 abbrev pub replyText : Reply → List ℕ
 replyText (parts es) = codes "ok" ++ joined partText es
 replyText (refused f) = codes "refused " ++ (decimal (told f .number) ++ (codes " " ++ (layerText (told f .layer) ++ (codes ": " ++ reasonText f))))

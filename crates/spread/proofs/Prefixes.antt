@@ -40,21 +40,21 @@ pub sum-small : (ws : List ℕ) → Bounded ws → sum ws ≤ 7450000000000
 sum-small ws b = omega (arith, sumBy-le (λ x. x) weightLimit ws (b .small), b .few)
 
 -- the weight that a cursor reads after i places
-pub weight-read : (ws : List ℕ) (i : ℕ) → Bounded ws → atPlace ws (min i mostPlaces + 1) ≡ atPlace ws (i + 1)
+weight-read : (ws : List ℕ) (i : ℕ) → Bounded ws → atPlace ws (min i mostPlaces + 1) ≡ atPlace ws (i + 1)
 weight-read ws i b = ⊎-elim
     (λ (h : i < 746). ap (λ k. atPlace ws (k + 1)) (omega arith))
     (λ (h : 746 ≤ i). place-outside ws (min i mostPlaces + 1) (inr (omega (arith, b .few))) ∙ sym (place-outside ws (i + 1) (inr (omega (arith, b .few)))))
     (cases-lt i 746)
 
 module _ (t : ℤ) (ws : List ℕ) (i : ℕ) (b : Bounded ws) where
-  pub onward-is : onward (walked t ws i) (atPlace ws (min i mostPlaces + 1)) ≡ upto ws (i + 1)
+  onward-is : onward ws (walked t ws i) ≡ upto ws (i + 1)
   onward-is = omega (arith, weight-read ws i b, upto-more ws i, upto-whole ws (i + 1))
 
-  pub next-is : nextPart (walked t ws i) (atPlace ws (min i mostPlaces + 1)) ≡ part t ws i
+  pub next-is : nextPart ws (walked t ws i) ≡ part t ws i
   unfolding nextPart part
   next-is = rw onward-is
 
-  pub advanced-is : advanced (walked t ws i) (atPlace ws (min i mostPlaces + 1)) ≡ walked t ws (i + 1)
+  pub advanced-is : advanced ws (walked t ws i) ≡ walked t ws (i + 1)
   advanced-is =
       let e = onward-is in
       let p : min (min i mostPlaces + 1) mostPlaces ≡ min (i + 1) mostPlaces = omega arith in

@@ -13,9 +13,10 @@ lineValue ws k = atPlace ws k / (length ws + 1)
 abbrev pub weekValue : List ℕ → ℕ → ℕ
 weekValue ws k = atPlace ws k
 
--- the codes: 1 and 2 without a known energy, 3 and 4 with one
+-- the code of the line: 1 without a known energy, 3 with one
 abbrev pub lineCode : Bool → ℕ
 lineCode known = cond known 3 1
 
+-- the code of last week: 2 without, 4 with
 abbrev pub weekCode : Bool → ℕ
 weekCode known = cond known 4 2

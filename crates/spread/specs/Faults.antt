@@ -10,6 +10,7 @@ pub record Told : Type 0 where
   pub number : ℕ
   pub layer : Layer
 
+-- what each refusal tells
 abbrev pub told : SpreadFault → Told
 told Places = record { number = 31; layer = Spread }
 told TooLarge = record { number = 32; layer = Spread }

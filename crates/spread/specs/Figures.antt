@@ -18,6 +18,7 @@ use Rattle.spread.specs.Shares.{share, spreadFault}
 abbrev pub refusedBy : ℤ → List ℕ → ℕ → Option ℕ
 refusedBy t ws n = mapped (λ f. told f .number) (spreadFault t ws n)
 
+-- energies of so many kWh
 abbrev pub energies : List ℤ → List Kwh
 energies zs = map kwh zs
 

@@ -30,6 +30,7 @@ heavy (w ∷ ws) = ltb weightLimit w || heavy ws
 abbrev pub flat : ℕ → List ℕ
 flat n = replicate n 1
 
+-- why a flat key of n places is not made
 abbrev pub flatFault : ℕ → Option SpreadFault
 flatFault n = cond (ltb mostPlaces n) (Some NoKey) None
 
@@ -37,7 +38,7 @@ flatFault n = cond (ltb mostPlaces n) (Some NoKey) None
 abbrev pub clipped : List ℕ → List ℕ
 clipped ws = map (λ w. min w weightLimit) (take mostPlaces ws)
 
--- a list of numbers
+-- why a key is not made of a list of numbers
 abbrev pub listFault : List ℕ → Option SpreadFault
 listFault ws = cond (ltb mostPlaces (length ws) || heavy ws) (Some NoKey) None
 
@@ -45,8 +46,10 @@ listFault ws = cond (ltb mostPlaces (length ws) || heavy ws) (Some NoKey) None
 abbrev pub lineAt : ℕ → ℕ → ℕ → ℕ → ℕ
 lineAt g before after k = before * (g + 1 - k) + after * k
 
+-- its weights at the places 1 to g
 abbrev pub line : ℕ → ℕ → ℕ → List ℕ
 line g before after = map (lineAt g before after) (counting 1 g)
 
+-- why it is not made
 abbrev pub lineFault : ℕ → ℕ → ℕ → Option SpreadFault
 lineFault g before after = cond (ltb lineLimit g || (ltb hourLimit before || ltb hourLimit after)) (Some NoKey) None

@@ -1,4 +1,5 @@
 -- The shape of every contract: a call is refused and leaves all as it was, or does its work. Assumes nothing.
+use mathlib.Core.Path.{_≡_}
 use Rattle.std.specs.declared.option.Option.{Option}
 use Rattle.std.specs.declared.option.Option.the-variants.{Some, None}
 use Rattle.std.specs.declared.result.Result.{Result}
@@ -13,6 +14,11 @@ answerOf (Some f) = Err f
 abbrev pub unlessFault : {F X : Type 0} → Option F → X → X → X
 unlessFault None was new = new
 unlessFault (Some f) was new = was
+
+-- what is made where there is no refusal, and what holds of it
+abbrev pub Made-unless : {F X : Type 0} → Option F → (X → Type 0) → Result X F → Type 0
+Made-unless f P (Ok x) = (f ≡ None) × P x
+Made-unless f P (Err g) = f ≡ Some g
 
 -- the first refusal of two
 abbrev pub orElse : {F : Type 0} → Option F → Option F → Option F

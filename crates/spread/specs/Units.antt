@@ -9,12 +9,15 @@ use Rattle.spread.specs.declared.units.Kwh.{Kwh}
 use Rattle.spread.specs.declared.units.Metered.{Metered}
 use Rattle.spread.specs.declared.units.Money.{Money}
 
+-- an energy of so many kWh
 abbrev pub kwh : ℤ → Kwh
 kwh z = record { 0 = z }
 
+-- the same of one that counts from 0
 abbrev pub metered : ℕ → Metered
 metered n = record { 0 = n }
 
+-- so many thousandths of a cent
 abbrev pub money : ℤ → Money
 money z = record { 0 = z }
 

@@ -6,6 +6,7 @@ use Rattle.std.specs.shelf.Lists.{sum}
 use Rattle.spread.specs.Limits.{mostPlaces}
 use Rattle.spread.specs.declared.sign.Sign.{Sign}
 use Rattle.spread.specs.declared.cursor.Cursor.{Cursor}
+use Rattle.spread.specs.Keys.{atPlace}
 use Rattle.spread.specs.Signs.{signOf, put}
 use Rattle.spread.specs.Shares.{upto, running}
 
@@ -17,20 +18,21 @@ pub record Walk : Type 0 where
   pub passed : ℕ
   pub place : ℕ
 
+-- how far a cursor of the code has come
 abbrev pub walkOf : Cursor → Walk
 walkOf c = record { size = c .size; sign = c .sign; whole = c .whole; passed = c .passed; place = c .place }
 
--- the sum of the weights passed once one more is; it never leaves the whole, whatever key is handed in
-abbrev pub onward : Walk → ℕ → ℕ
-onward w weight = min (w .passed + weight) (w .whole)
+-- the sum of the weights passed once the next is; it never leaves the whole, whatever key is handed in
+abbrev pub onward : List ℕ → Walk → ℕ
+onward ws w = min (w .passed + atPlace ws (w .place + 1)) (w .whole)
 
--- the part that the next weight gets
-unfoldable pub nextPart : Walk → ℕ → ℤ
-nextPart w weight = put (w .sign) (running (w .size) (w .whole) (onward w weight) - running (w .size) (w .whole) (w .passed))
+-- the part at the next place of the weights ws
+unfoldable pub nextPart : List ℕ → Walk → ℤ
+nextPart ws w = put (w .sign) (running (w .size) (w .whole) (onward ws w) - running (w .size) (w .whole) (w .passed))
 
--- the cursor after it: a key has no more than 745 places
-abbrev pub advanced : Walk → ℕ → Walk
-advanced w weight = record { size = w .size; sign = w .sign; whole = w .whole; passed = onward w weight; place = min (w .place + 1) mostPlaces }
+-- the cursor after it: a key has no more places than the most
+abbrev pub advanced : List ℕ → Walk → Walk
+advanced ws w = record { size = w .size; sign = w .sign; whole = w .whole; passed = onward ws w; place = min (w .place + 1) mostPlaces }
 
 -- i places of the weights ws are passed by the parts of t
 abbrev pub walked : ℤ → List ℕ → ℕ → Walk

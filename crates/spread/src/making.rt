@@ -1,7 +1,6 @@
 // Making a key: what a caller hands in is checked first.
 ghost use mathlib.Core.Path.{_≡_};
-ghost use Rattle.std.specs.Results.{Cases};
-ghost use Rattle.std.specs.declared.option.Option.the-variants.{Some, None};
+ghost use Rattle.spread.specs.Outcome.{Made-unless};
 ghost use Rattle.spread.specs.Keys.{flat, line, flatFault, listFault, lineFault};
 ghost use Rattle.spread.specs.contracts.flat.FlatKey.the-impl.{ghosts as flatKey};
 ghost use Rattle.spread.specs.contracts.line.LineKey.the-impl.{ghosts as lineKey};
@@ -20,7 +19,7 @@ use crate::units::Metered;
 
 impl Flat {
     pub fn new(count: usize) -> Result<Flat, SpreadFault>
-        ensures { λ r. ⌜ Cases r (λ k. (flatFault count ≡ None) × (flatKey .weights k ≡ flat count)) (λ f. flatFault count ≡ Some f) ⌝ }
+        ensures { λ r. ⌜ Made-unless (flatFault count) (λ k. flatKey .weights k ≡ flat count) r ⌝ }
     {
         if count > MOST_PLACES {
             return Err(SpreadFault::NoKey);
@@ -31,7 +30,7 @@ impl Flat {
 
 impl Line {
     pub fn new(gap: usize, before: Metered, after: Metered) -> Result<Line, SpreadFault>
-        ensures { λ r. ⌜ Cases r (λ k. (lineFault gap (before .0) (after .0) ≡ None) × (lineKey .weights k ≡ line gap (before .0) (after .0))) (λ f. lineFault gap (before .0) (after .0) ≡ Some f) ⌝ }
+        ensures { λ r. ⌜ Made-unless (lineFault gap (before .0) (after .0)) (λ k. lineKey .weights k ≡ line gap (before .0) (after .0)) r ⌝ }
     {
         if gap > LINE_LIMIT || before.0 > HOUR_LIMIT || after.0 > HOUR_LIMIT {
             return Err(SpreadFault::NoKey);
@@ -42,7 +41,7 @@ impl Line {
 
 impl<'a> Numbers<'a> {
     pub fn new(list: &'a [u64]) -> Result<Numbers<'a>, SpreadFault>
-        ensures { λ r. ⌜ Cases r (λ k. (listFault (now (list .entry)) ≡ None) × (numbersKey .weights k ≡ now (list .entry))) (λ f. listFault (now (list .entry)) ≡ Some f) ⌝ }
+        ensures { λ r. ⌜ Made-unless (listFault (now (list .entry))) (λ k. numbersKey .weights k ≡ now (list .entry)) r ⌝ }
     {
         if list.len() > MOST_PLACES {
             return Err(SpreadFault::NoKey);
@@ -58,7 +57,7 @@ impl<'a> Numbers<'a> {
 
 impl<'a> LastWeek<'a> {
     pub fn new(list: &'a [u64]) -> Result<LastWeek<'a>, SpreadFault>
-        ensures { λ r. ⌜ Cases r (λ k. (listFault (now (list .entry)) ≡ None) × (lastWeekKey .weights k ≡ now (list .entry))) (λ f. listFault (now (list .entry)) ≡ Some f) ⌝ }
+        ensures { λ r. ⌜ Made-unless (listFault (now (list .entry))) (λ k. lastWeekKey .weights k ≡ now (list .entry)) r ⌝ }
     {
         let numbers = Numbers::new(list)?;
         Ok(LastWeek { numbers })

@@ -1,12 +1,10 @@
 // How a cursor begins and how it goes on.
 ghost use mathlib.Core.Path.{_≡_};
-ghost use Rattle.spread.specs.Limits.{productLimit};
 ghost use Prim.Native.Nat.{ℕ, _+_, _-_, _*_, _≤_};
 ghost use lib.IntN.{ℤ, natAbs};
-ghost use Rattle.std.specs.Results.{Cases};
 ghost use Rattle.std.specs.shelf.Lists.{sum};
-ghost use Rattle.std.specs.declared.option.Option.the-variants.{Some, None};
-ghost use Rattle.spread.specs.Keys.{atPlace};
+ghost use Rattle.spread.specs.Limits.{productLimit};
+ghost use Rattle.spread.specs.Outcome.{Made-unless};
 ghost use Rattle.spread.specs.Shares.{part, running, sizeFault};
 ghost use Rattle.spread.specs.Walks.{walkOf, nextPart, advanced, walked};
 use crate::cursor::Cursor;
@@ -41,7 +39,7 @@ fn running_share(size: u64, whole: u64, prefix: u64) -> u64
 impl Cursor {
     // A cursor before the first place of a key.
     pub fn new<K: Key>(key: &K, total: Kwh) -> Result<Cursor, SpreadFault>
-        ensures { λ r. ⌜ Cases r (λ c. (sizeFault (natAbs (total .0)) (sum (weights (now (key .entry)))) ≡ None) × (walkOf c ≡ walked (total .0) (weights (now (key .entry))) 0)) (λ f. sizeFault (natAbs (total .0)) (sum (weights (now (key .entry)))) ≡ Some f) ⌝ }
+        ensures { λ r. ⌜ Made-unless (sizeFault (natAbs (total .0)) (sum (weights (now (key .entry))))) (λ c. walkOf c ≡ walked (total .0) (weights (now (key .entry))) 0) r ⌝ }
     {
         let size = total.size();
         let whole = whole(key);
@@ -62,8 +60,8 @@ impl Cursor {
 
     // The part at the next place, and 0 past the last. A key that is not the one it began with cannot lead it past the whole.
     pub fn next_part<K: Key>(&mut self, key: &K) -> Kwh
-        ensures part { λ r. ⌜ r .0 ≡ nextPart (walkOf (now (self .entry))) (atPlace (weights (now (key .entry))) (now (self .entry) .place + 1)) ⌝ }
-        ensures moved { λ _. ⌜ walkOf (now (self .exit)) ≡ advanced (walkOf (now (self .entry))) (atPlace (weights (now (key .entry))) (now (self .entry) .place + 1)) ⌝ }
+        ensures part { λ r. ⌜ r .0 ≡ nextPart (weights (now (key .entry))) (walkOf (now (self .entry))) ⌝ }
+        ensures moved { λ _. ⌜ walkOf (now (self .exit)) ≡ advanced (weights (now (key .entry))) (walkOf (now (self .entry))) ⌝ }
         ensures law { λ r. ⌜ ((t : ℤ) (i : ℕ) → walkOf (now (self .entry)) ≡ walked t (weights (now (key .entry))) i → (r .0 ≡ part t (weights (now (key .entry))) i) × (walkOf (now (self .exit)) ≡ walked t (weights (now (key .entry))) (i + 1))) ⌝ }
     {
         let passed = self.passed;

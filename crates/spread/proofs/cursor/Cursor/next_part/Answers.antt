@@ -3,10 +3,9 @@ use Prim.Native.Nat.{min, _+_, _-_, _^_, _≤_, _<_}
 use native.Mathlib.Omega.{arith}
 use borrow.Author.Needs.{needs}
 use Rattle.spread.specs.Limits.{mostPlaces}
-use Rattle.spread.specs.Keys.{atPlace}
 use Rattle.spread.specs.Shares.{running}
 use Rattle.spread.specs.Signs.{put}
-use Rattle.spread.specs.Walks.{Walk, walkOf, onward, nextPart, advanced}
+use Rattle.spread.specs.Walks.{walkOf, onward, nextPart, advanced}
 use Rattle.spread.proofs.Running.{running-rises, running-within}
 use Rattle.spread.proofs.Prefixes.{next-is, advanced-is}
 use Rattle.spread.proofs.cursor.Cursor.next_part.Needs as need
@@ -29,19 +28,18 @@ returns g c =
     let self = c .args .self .now in
     let ws = g .K·Key .weights (c .args .key .now) in
     let b = g .K·Key .bounded (c .args .key .now) in
-    let weight = atPlace ws (self .place + 1) in
     let fits : self .whole < 2 ^ 64 = search needs in
-    let on : c .min-onward .result ≡ onward (walkOf self) weight = omega (arith, c .weight-weight .ensures) in
+    let on : c .min-onward .result ≡ onward ws (walkOf self) = omega (arith, c .weight-weight .ensures) in
     let at : c .min-self .result ≡ min (self .place + 1) mostPlaces = c .min-self .ensures in
-    let gives : c .put .result .0 ≡ nextPart (walkOf self) weight =
+    let gives : c .put .result .0 ≡ nextPart ws (walkOf self) =
     c .put .ensures ∙ rw (c .running-share-high .ensures, c .running-share-low .ensures) (ap (λ p. put (self .sign) (running (self .size) (self .whole) p - running (self .size) (self .whole) (self .passed))) on) in
-    let moves : record { size = self .size; sign = self .sign; whole = self .whole; passed = c .min-onward .result; place = c .min-self .result } ≡ advanced (walkOf self) weight =
+    let moves : record { size = self .size; sign = self .sign; whole = self .whole; passed = c .min-onward .result; place = c .min-self .result } ≡ advanced ws (walkOf self) =
     λ j. record { size = self .size; sign = self .sign; whole = self .whole; passed = on j; place = at j } in
     record {
       part = gives;
       moved = moves;
       law = λ t i e. (
-        gives ∙ ap (λ (w : Walk). nextPart w (atPlace ws (w .place + 1))) e ∙ next-is t ws i b,
-        moves ∙ ap (λ (w : Walk). advanced w (atPlace ws (w .place + 1))) e ∙ advanced-is t ws i b,
+        gives ∙ ap (nextPart ws) e ∙ next-is t ws i b,
+        moves ∙ ap (advanced ws) e ∙ advanced-is t ws i b,
       );
     }
