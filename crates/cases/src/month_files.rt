@@ -3,7 +3,7 @@ use monthfile::command::Command;
 use monthfile::command::Weights;
 use monthfile::command::written;
 use monthfile::output::run;
-use monthfile::read::Line;
+use monthfile::read::LineMeaning;
 use monthfile::read::read_line;
 use spread::units::Kwh;
 use spread::units::Metered;
@@ -119,9 +119,9 @@ fn written_as(heap: Global, command: Command, line: &str) -> Result<(), Fail> {
     let text = written(heap, &command)?;
     check_eq(text.as_str(), line)?;
     match read_line(heap, text.as_bytes())? {
-        Line::Asks(again) => check_eq(written(heap, &again)?.as_str(), line),
-        Line::Blank => Err(Fail::new("blank")),
-        Line::Mistaken(_) => Err(Fail::new("mistaken")),
+        LineMeaning::Asks(again) => check_eq(written(heap, &again)?.as_str(), line),
+        LineMeaning::Blank => Err(Fail::new("blank")),
+        LineMeaning::Mistaken(_) => Err(Fail::new("mistaken")),
     }
 }
 

@@ -3,3 +3,4 @@ pub mod Breaks
 pub mod Digits
 pub mod Texts
 pub mod Back
+pub mod Memory

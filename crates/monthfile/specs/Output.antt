@@ -15,6 +15,12 @@ meantText n blank-line = []
 meantText n (asks c) = decimal n ++ (codes ": " ++ (replyText (replyTo c) ++ codes "\n"))
 meantText n (mistaken f) = decimal n ++ (codes ": error: " ++ (faultText f ++ codes "\n"))
 
+-- whether a line has words, by what it means
+abbrev pub hasWords : LineSaid → Bool
+hasWords blank-line = false
+hasWords (asks c) = true
+hasWords (mistaken f) = true
+
 -- whether a line is no command, by what it means
 abbrev pub isMistake : LineSaid → Bool
 isMistake blank-line = false
@@ -38,6 +44,11 @@ linesText n (l ∷ ls) = lineText n l ++ linesText (n + 1) ls
 abbrev pub someMistaken : List (List ℕ) → Bool
 someMistaken [] = false
 someMistaken (l ∷ ls) = mistakenLine l || someMistaken ls
+
+-- whether one of the lines has words
+abbrev pub someWords : List (List ℕ) → Bool
+someWords [] = false
+someWords (l ∷ ls) = hasWords (lineOf l) || someWords ls
 
 -- lines are numbered from 1
 abbrev pub outputOf : List ℕ → List ℕ

@@ -4,15 +4,15 @@ use mathlib.Core.Bool.{Bool, true}
 use Rattle.std.specs.declared.result.Result.{Result}
 use Rattle.std.specs.declared.result.Result.the-variants.{Ok, Err}
 use Rattle.monthfile.specs.declared.fault.LineFault.{LineFault}
-use Rattle.monthfile.specs.declared.read.Line.{Line}
-use Rattle.monthfile.specs.declared.read.Line.the-variants.{Blank, Asks, Mistaken}
+use Rattle.monthfile.specs.declared.read.LineMeaning.{LineMeaning}
+use Rattle.monthfile.specs.declared.read.LineMeaning.the-variants.{Blank, Asks, Mistaken}
 use Rattle.monthfile.specs.declared.read.Stop.{Stop}
 use Rattle.monthfile.specs.declared.read.Stop.the-variants.{Fault, NoMemory}
 use Rattle.monthfile.specs.Said.{said}
 use Rattle.monthfile.specs.Meaning.{LineSaid, blank-line, asks, mistaken}
 
 -- what a line that was read says
-abbrev pub saidLine : Line → LineSaid
+abbrev pub saidLine : LineMeaning → LineSaid
 saidLine Blank = blank-line
 saidLine (Asks c) = asks (said c)
 saidLine (Mistaken f) = mistaken f

@@ -1,12 +1,11 @@
 -- What a command is answered with, and how the answer is written. Assumes nothing.
-use mathlib.Core.Bool.{Bool, not}
+use mathlib.Core.Bool.{Bool, true, false}
 use mathlib.Core.List.{List, _++_}
 use Prim.Native.Nat.{ℕ}
 use lib.Chars.{codes}
 use lib.IntN.{ℤ}
 use lib.ListN.{length}
 use Rattle.std.specs.Joined.{joined}
-use Rattle.std.specs.Options.{isSome}
 use Rattle.std.specs.Of.Vec.{vec-items}
 use Rattle.std.specs.Written.{decimal, signed}
 use Rattle.std.specs.declared.option.Option.{Option}
@@ -34,6 +33,11 @@ abbrev pub tells : Answer → Reply
 tells (Parts v) = parts (vec-items v)
 tells (Refused f) = refused f
 
+-- whether there are parts to hold
+abbrev pub isParts : Reply → Bool
+isParts (parts es) = true
+isParts (refused f) = false
+
 -- refused by f, if there is one, else es
 abbrev pub replyBy : Option SpreadFault → List Kwh → Reply
 replyBy None es = parts es
@@ -54,10 +58,6 @@ abbrev pub keyWeights : SaidKey → List ℕ
 keyWeights (say-flat n) = flat n
 keyWeights (say-list ws) = ws
 keyWeights (say-line g a b) = line g a b
-
--- a key is made of what was said, so that there are parts to hold
-abbrev pub keyMade : Said → Bool
-keyMade (say-spread t k) = not (isSome (keyFault k))
 
 -- the key is made first, then the total is spread over it
 abbrev pub replyTo : Said → Reply

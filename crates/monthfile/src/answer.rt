@@ -5,9 +5,10 @@ ghost use Rattle.std.specs.Results.{isOk};
 ghost use Rattle.std.specs.Vec.{made};
 ghost use Rattle.std.specs.declared.option.Option.the-variants.{Some};
 ghost use Rattle.monthfile.specs.Said.{said};
-ghost use Rattle.monthfile.specs.Replies.{tells, spreadReply, replyTo, keyMade, reasonText, layerText, replyText};
+ghost use Rattle.monthfile.specs.Replies.{tells, spreadReply, replyTo, isParts, reasonText, layerText, replyText};
 use crate::command::Command;
 use crate::command::Weights;
+use spread::cursor::Cursor;
 use spread::fault::Layer;
 use spread::fault::SpreadFault;
 use spread::flat::Flat;
@@ -76,10 +77,14 @@ pub impl fmt::Display for Answer as AnswerDisplay {
     }
 }
 
-// The parts of a total over a key.
+// The parts of a total over a key. What is refused takes no memory.
 fn spread_over<K: Key>(heap: Global, key: &K, total: Kwh) -> Result<Answer, AllocError>
-    ensures { λ r. ⌜ made r (λ a. tells a ≡ spreadReply (total .0) (weights (now (key .entry)))) ⌝ }
+    ensures reply { λ r. ⌜ made r (λ a. tells a ≡ spreadReply (total .0) (weights (now (key .entry)))) ⌝ }
+    ensures memory { λ r. ⌜ (isOk r ≡ false → isParts (spreadReply (total .0) (weights (now (key .entry)))) ≡ true) ⌝ }
 {
+    if let Err(fault) = Cursor::new(key, total) {
+        return Ok(Answer::Refused(fault));
+    }
     let mut parts = vec![in heap; Kwh(0); key.len()]?;
     match spread(key, total, &mut parts) {
         Ok(()) => Ok(Answer::Parts(parts)),
@@ -91,7 +96,7 @@ impl Command {
     // Does what the command asks for. Only parts take memory.
     pub fn answer(&self, heap: Global) -> Result<Answer, AllocError>
         ensures reply { λ r. ⌜ made r (λ a. tells a ≡ replyTo (said (now (self .entry)))) ⌝ }
-        ensures memory { λ r. ⌜ (isOk r ≡ false → keyMade (said (now (self .entry))) ≡ true) ⌝ }
+        ensures memory { λ r. ⌜ (isOk r ≡ false → isParts (replyTo (said (now (self .entry)))) ≡ true) ⌝ }
     {
         let Command::Spread { total, over } = self;
         match over {

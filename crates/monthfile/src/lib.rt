@@ -2,8 +2,9 @@
 pub mod answer;
 pub mod command;
 pub mod fault;
-pub mod lines;
-pub mod number;
+mod lines;
+mod number;
 pub mod output;
 pub mod read;
-pub mod words;
+mod scan;
+mod words;

@@ -1,26 +1,14 @@
 // The lines of a text, and a line without its comment.
 ghost use mathlib.Core.Path.{_≡_};
-ghost use Prim.Native.Nat.{_≤_};
-ghost use lib.ListN.{length};
-ghost use Rattle.std.specs.shelf.Lists.{leading};
 ghost use Rattle.monthfile.specs.Parts.{First, Shorter};
-ghost use Rattle.monthfile.specs.Lines.{other, linesOf, commentless};
+ghost use Rattle.monthfile.specs.Lines.{linesOf, commentless};
+use crate::scan::Other;
+use crate::scan::OtherTest;
+use crate::scan::front;
 
 const LINE_BREAK: u8 = b'\n';
 
 const COMMENT: u8 = b'#';
-
-// How many bytes stand before the first `mark`.
-fn unmarked(text: &[u8], mark: u8) -> usize
-    ensures value { λ r. ⌜ r ≡ leading (other mark) (now (text .entry)) ⌝ }
-    ensures bound { λ r. ⌜ r ≤ length (now (text .entry)) ⌝ }
-{
-    let mut n = 0;
-    while n < text.len() && text[n] != mark {
-        n += 1;
-    }
-    n
-}
 
 // The first line and what follows its line break.
 pub fn next_line(text: &[u8]) -> Option<(&[u8], &[u8])>
@@ -30,7 +18,7 @@ pub fn next_line(text: &[u8]) -> Option<(&[u8], &[u8])>
     if text.is_empty() {
         return None;
     }
-    let (line, rest) = text.split_at(unmarked(text, LINE_BREAK));
+    let (line, rest) = text.split_at(front(&Other(LINE_BREAK), text));
     if rest.is_empty() {
         return Some((line, rest));
     }
@@ -42,6 +30,6 @@ pub fn next_line(text: &[u8]) -> Option<(&[u8], &[u8])>
 pub fn uncommented(line: &[u8]) -> &[u8]
     ensures value { λ r. ⌜ now r ≡ commentless (now (line .entry)) ⌝ }
 {
-    let (said, _) = line.split_at(unmarked(line, COMMENT));
+    let (said, _) = line.split_at(front(&Other(COMMENT), line));
     said
 }

@@ -28,7 +28,7 @@ use std::alloc::Global;
 use std::alloc::Refused;
 
 #[derive(Drop)]
-pub enum Line {
+pub enum LineMeaning {
     // without words
     Blank,
     Asks(Command),
@@ -174,16 +174,16 @@ fn named_command(heap: Global, name: &[u8], line: &[u8]) -> Result<Command, Stop
 }
 
 // What a line asks for. Only a list takes memory.
-pub fn read_line(heap: Global, line: &[u8]) -> Result<Line, AllocError>
+pub fn read_line(heap: Global, line: &[u8]) -> Result<LineMeaning, AllocError>
     ensures reads { λ r. ⌜ made r (λ l. saidLine l ≡ lineOf (now (line .entry))) ⌝ }
     ensures memory { λ r. ⌜ (isOk r ≡ false → takesMemory (wordsOf (commentless (now (line .entry)))) ≡ true) ⌝ }
 {
     let Some((name, rest)) = next_word(uncommented(line)) else {
-        return Ok(Line::Blank);
+        return Ok(LineMeaning::Blank);
     };
     match named_command(heap, name, rest) {
-        Ok(command) => Ok(Line::Asks(command)),
-        Err(Stop::Fault(fault)) => Ok(Line::Mistaken(fault)),
+        Ok(command) => Ok(LineMeaning::Asks(command)),
+        Err(Stop::Fault(fault)) => Ok(LineMeaning::Mistaken(fault)),
         Err(Stop::NoMemory) => Err(AllocError),
     }
 }

@@ -1,4 +1,4 @@
--- The parts add up, turn with the sign, and stay near their shares. Assumes nothing.
+-- The parts add up, and turn with the sign. Assumes nothing.
 use mathlib.Core.Path.{_≡_, refl, sym, ap, subst, _∙_}
 use mathlib.Core.Logic.{_⊎_, inl, inr}
 use mathlib.Core.List.{List, [], _∷_, map, map-map}

@@ -2,7 +2,7 @@
 use mathlib.Core.Path.{_≡_, sym, ap, _∙_}
 use mathlib.Core.Logic.{_⊎_, inr, ⊎-elim}
 use mathlib.Core.List.{List}
-use Prim.Native.Nat.{ℕ, min, _+_, _-_, _≤_, _<_}
+use Prim.Native.Nat.{ℕ, min, _+_, _*_, _≤_, _<_}
 use native.Mathlib.Omega.{arith}
 use native.Mathlib.Numerals.{add-one}
 use lib.IntN.{ℤ}
@@ -36,15 +36,15 @@ upto-more ws i = ⊎-elim
     (λ (h : length ws ≤ i). omega (arith, upto-all ws i h, upto-all ws (i + 1) (omega arith), place-outside ws (i + 1) (inr (omega arith))))
     (cases-lt i (length ws))
 
-pub sum-small : (ws : List ℕ) → Bounded ws → sum ws ≤ 7450000000000
+pub sum-small : (ws : List ℕ) → Bounded ws → sum ws ≤ mostPlaces * weightLimit
 sum-small ws b = omega (arith, sumBy-le (λ x. x) weightLimit ws (b .small), b .few)
 
 -- the weight that a cursor reads after i places
 weight-read : (ws : List ℕ) (i : ℕ) → Bounded ws → atPlace ws (min i mostPlaces + 1) ≡ atPlace ws (i + 1)
 weight-read ws i b = ⊎-elim
-    (λ (h : i < 746). ap (λ k. atPlace ws (k + 1)) (omega arith))
-    (λ (h : 746 ≤ i). place-outside ws (min i mostPlaces + 1) (inr (omega (arith, b .few))) ∙ sym (place-outside ws (i + 1) (inr (omega (arith, b .few)))))
-    (cases-lt i 746)
+    (λ (h : i < mostPlaces). ap (λ k. atPlace ws (k + 1)) (omega arith))
+    (λ (h : mostPlaces ≤ i). place-outside ws (min i mostPlaces + 1) (inr (omega (arith, b .few))) ∙ sym (place-outside ws (i + 1) (inr (omega (arith, b .few)))))
+    (cases-lt i mostPlaces)
 
 module _ (t : ℤ) (ws : List ℕ) (i : ℕ) (b : Bounded ws) where
   onward-is : onward ws (walked t ws i) ≡ upto ws (i + 1)

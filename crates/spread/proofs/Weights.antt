@@ -1,18 +1,17 @@
 -- The weights of each key: which stands at a place, and which lists are made into one. Assumes nothing.
 use mathlib.Core.Path.{_≡_, refl, sym, ap, _∙_}
 use mathlib.Core.Bool.{true, false, _||_}
-use mathlib.Core.Logic.{_⊎_, inl, inr, ⊎-elim}
+use mathlib.Core.Logic.{_⊎_, inl, inr}
 use mathlib.Core.List.{List, [], _∷_, map}
 use Prim.Native.Nat.{ℕ, zero, suc, min, _+_, _-_, _≤_, _<_}
 use native.Mathlib.Omega.{arith}
 use lib.Dec.{ltb}
 use lib.ListN.{length, getD, take, drop, length-replicate, getD-replicate}
 use Rattle.std.proofs.shelf.Lists.{getD-past, getD-map, getD-take, length-take, take-all, at-drop-more, at-drop-all}
-use Rattle.std.proofs.shelf.Elements.{all-getD}
 use Rattle.std.proofs.shelf.Counted.{getD-map-counting}
-use Rattle.std.proofs.shelf.Tests.{cases-lt, or-parts, or-left, ltb-false, lt-ltb, le-ltb}
+use Rattle.std.proofs.shelf.Tests.{or-parts, or-left, ltb-false, lt-ltb, le-ltb}
 use Rattle.spread.specs.Limits.{weightLimit, mostPlaces}
-use Rattle.spread.specs.Keys.{Bounded, atPlace, flat, clipped, heavy, lineAt, line}
+use Rattle.spread.specs.Keys.{atPlace, flat, clipped, heavy, lineAt, line}
 use Rattle.spread.specs.Bounds.{clipped-length, line-length}
 
 pub place-at : (ws : List ℕ) (k : ℕ) → 1 ≤ k → atPlace ws k ≡ getD ws (k - 1) 0
@@ -23,13 +22,6 @@ pub place-outside : (ws : List ℕ) (k : ℕ) → (k ≡ 0) ⊎ (length ws < k) 
 place-outside ws zero h = refl
 place-outside ws (suc k) (inl e) = absurd (omega arith)
 place-outside ws (suc k) (inr l) = getD-past ws k 0 (omega arith)
-
-pub place-small : (ws : List ℕ) (k : ℕ) → Bounded ws → atPlace ws k ≤ weightLimit
-place-small ws zero b = omega arith
-place-small ws (suc k) b = ⊎-elim
-    (λ (h : k < length ws). all-getD (λ w. w ≤ weightLimit) ws k 0 h (b .small))
-    (λ (h : length ws ≤ k). rw (getD-past ws k 0 h) (omega arith))
-    (cases-lt k (length ws))
 
 -- flat
 pub flat-length : (n : ℕ) → length (flat n) ≡ n

@@ -1,7 +1,7 @@
 -- That the weights of each key are within a key's limits, as the keys' ghost members say. Assumes nothing.
 use mathlib.Core.Path.{_≡_, refl, _∙_}
 use mathlib.Core.List.{List, [], _∷_, map}
-use Prim.Native.Nat.{ℕ, zero, suc, min, _+_, _-_, _≤_}
+use Prim.Native.Nat.{ℕ, zero, suc, min, _+_, _-_, _*_, _≤_}
 use native.Mathlib.Omega.{arith}
 use lib.ListN.{length, take, length-replicate}
 use Rattle.std.specs.shelf.Lists.{All}
@@ -32,7 +32,7 @@ pub clipped-bounded : (ws : List ℕ) → Bounded (clipped ws)
 clipped-bounded ws = record { few = omega (arith, clipped-length ws); small = all-clipped (take mostPlaces ws) }
 
 -- the line
-pub line-small : (g a b k : ℕ) → g ≤ lineLimit → a ≤ hourLimit → b ≤ hourLimit → k ≤ g → lineAt g a b k ≤ 36000000
+pub line-small : (g a b k : ℕ) → g ≤ lineLimit → a ≤ hourLimit → b ≤ hourLimit → k ≤ g → lineAt g a b k ≤ 18 * hourLimit
 line-small g a b k short low high h =
     omega (arith, mul-le a (g + 1 - k) hourLimit 9 low (omega arith), mul-le b k hourLimit 9 high (omega arith))
 

@@ -1,4 +1,5 @@
 -- A cursor over the places of a key. Assumes nothing.
+use mathlib.Core.Path.{_≡_}
 use Prim.Native.Nat.{ℕ, min, _+_, _-_}
 use mathlib.Core.List.{List}
 use lib.IntN.{ℤ, natAbs}
@@ -8,7 +9,7 @@ use Rattle.spread.specs.declared.sign.Sign.{Sign}
 use Rattle.spread.specs.declared.cursor.Cursor.{Cursor}
 use Rattle.spread.specs.Keys.{atPlace}
 use Rattle.spread.specs.Signs.{signOf, put}
-use Rattle.spread.specs.Shares.{upto, running}
+use Rattle.spread.specs.Shares.{upto, running, part}
 
 -- how far a cursor has come: the total by size and sign, the sum of the weights, the sum of those passed, and their count
 pub record Walk : Type 0 where
@@ -37,3 +38,7 @@ advanced ws w = record { size = w .size; sign = w .sign; whole = w .whole; passe
 -- i places of the weights ws are passed by the parts of t
 abbrev pub walked : ℤ → List ℕ → ℕ → Walk
 walked t ws i = record { size = natAbs t; sign = signOf t; whole = sum ws; passed = upto ws i; place = min i mostPlaces }
+
+-- a step from w to v over ws that gave e: where i places were passed by the parts of t, e is part i, and i + 1 are passed
+abbrev pub Follows : List ℕ → Walk → ℤ → Walk → Type 0
+Follows ws w e v = (t : ℤ) (i : ℕ) → w ≡ walked t ws i → (e ≡ part t ws i) × (v ≡ walked t ws (i + 1))

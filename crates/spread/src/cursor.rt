@@ -3,7 +3,7 @@ ghost use Prim.Native.Nat.{_*_, _≤_};
 ghost use Rattle.spread.specs.Limits.{productLimit, mostPlaces};
 use crate::sign::Sign;
 
-pub mod walk;
+mod walk;
 
 // The total is held by size and sign: sizes are divided, and the sign is put on each part.
 #[derive(Clone, Copy)]

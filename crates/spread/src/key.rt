@@ -5,12 +5,6 @@ ghost use Prim.Native.Nat.{ℕ};
 ghost use lib.ListN.{length};
 ghost use Rattle.spread.specs.Keys.{Bounded, atPlace};
 
-// The most places of a key.
-pub const MOST_PLACES: usize = 745;
-
-// The largest weight.
-pub const WEIGHT_LIMIT: u64 = 10_000_000_000;
-
 // A list of at most 745 weights, each at most 10,000,000,000. A question alters nothing, and asked twice it has the same answer.
 pub trait Key {
     // What the key means.

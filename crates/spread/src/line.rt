@@ -6,12 +6,6 @@ ghost use Rattle.spread.specs.Bounds.{line-bounded};
 use crate::key::Key;
 use crate::units::Metered;
 
-// The longest gap that a line serves.
-pub const LINE_LIMIT: usize = 8;
-
-// The most that one meter may read in one hour.
-pub const HOUR_LIMIT: u64 = 2_000_000;
-
 #[derive(Clone, Copy)]
 pub struct Line {
     pub(crate) gap: usize,

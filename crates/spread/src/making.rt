@@ -8,11 +8,11 @@ ghost use Rattle.spread.specs.contracts.numbers.NumbersKey.the-impl.{ghosts as
 ghost use Rattle.spread.specs.contracts.last_week.LastWeekKey.the-impl.{ghosts as lastWeekKey};
 use crate::fault::SpreadFault;
 use crate::flat::Flat;
-use crate::key::MOST_PLACES;
-use crate::key::WEIGHT_LIMIT;
 use crate::last_week::LastWeek;
-use crate::line::HOUR_LIMIT;
-use crate::line::LINE_LIMIT;
+use crate::limits::HOUR_LIMIT;
+use crate::limits::LINE_LIMIT;
+use crate::limits::MOST_PLACES;
+use crate::limits::WEIGHT_LIMIT;
 use crate::line::Line;
 use crate::numbers::Numbers;
 use crate::units::Metered;

@@ -2,8 +2,8 @@
 ghost use Rattle.spread.specs.Keys.{clipped};
 ghost use Rattle.spread.specs.Bounds.{clipped-bounded};
 use crate::key::Key;
-use crate::key::MOST_PLACES;
-use crate::key::WEIGHT_LIMIT;
+use crate::limits::MOST_PLACES;
+use crate::limits::WEIGHT_LIMIT;
 
 // Only a list within the limits is made into one, so that nothing of it is clipped.
 #[derive(Clone, Copy)]

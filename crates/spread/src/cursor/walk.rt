@@ -1,23 +1,21 @@
 // How a cursor begins and how it goes on.
 ghost use mathlib.Core.Path.{_≡_};
-ghost use Prim.Native.Nat.{ℕ, _+_, _-_, _*_, _≤_};
-ghost use lib.IntN.{ℤ, natAbs};
+ghost use Prim.Native.Nat.{_*_, _≤_};
+ghost use lib.IntN.{natAbs};
 ghost use Rattle.std.specs.shelf.Lists.{sum};
 ghost use Rattle.spread.specs.Limits.{productLimit};
 ghost use Rattle.spread.specs.Outcome.{Made-unless};
-ghost use Rattle.spread.specs.Shares.{part, running, sizeFault};
-ghost use Rattle.spread.specs.Walks.{walkOf, nextPart, advanced, walked};
+ghost use Rattle.spread.specs.Shares.{running, sizeFault};
+ghost use Rattle.spread.specs.Walks.{walkOf, nextPart, advanced, walked, Follows};
 use crate::cursor::Cursor;
 use crate::fault::SpreadFault;
 use crate::key::Key;
-use crate::key::MOST_PLACES;
+use crate::limits::MOST_PLACES;
+use crate::limits::PRODUCT_LIMIT;
 use crate::units::Kwh;
 
-// The most that size times whole may be.
-pub const PRODUCT_LIMIT: u64 = 9_000_000_000_000_000_000;
-
 // The sum of the weights of a key.
-fn whole<K: Key>(key: &K) -> u64
+fn weight_sum<K: Key>(key: &K) -> u64
     ensures { λ r. ⌜ r ≡ sum (weights (now (key .entry))) ⌝ }
 {
     let mut sum: u64 = 0;
@@ -42,7 +40,7 @@ impl Cursor {
         ensures { λ r. ⌜ Made-unless (sizeFault (natAbs (total .0)) (sum (weights (now (key .entry))))) (λ c. walkOf c ≡ walked (total .0) (weights (now (key .entry))) 0) r ⌝ }
     {
         let size = total.size();
-        let whole = whole(key);
+        let whole = weight_sum(key);
         if size != 0 && whole == 0 {
             return Err(SpreadFault::NoWeight);
         }
@@ -62,7 +60,7 @@ impl Cursor {
     pub fn next_part<K: Key>(&mut self, key: &K) -> Kwh
         ensures part { λ r. ⌜ r .0 ≡ nextPart (weights (now (key .entry))) (walkOf (now (self .entry))) ⌝ }
         ensures moved { λ _. ⌜ walkOf (now (self .exit)) ≡ advanced (weights (now (key .entry))) (walkOf (now (self .entry))) ⌝ }
-        ensures law { λ r. ⌜ ((t : ℤ) (i : ℕ) → walkOf (now (self .entry)) ≡ walked t (weights (now (key .entry))) i → (r .0 ≡ part t (weights (now (key .entry))) i) × (walkOf (now (self .exit)) ≡ walked t (weights (now (key .entry))) (i + 1))) ⌝ }
+        ensures law { λ r. ⌜ Follows (weights (now (key .entry))) (walkOf (now (self .entry))) (r .0) (walkOf (now (self .exit))) ⌝ }
     {
         let passed = self.passed;
         let weight = key.weight(self.place + 1);

@@ -1,13 +1,35 @@
-use mathlib.Core.Path.{_≡_, sym, ap, _∙_}
+use mathlib.Core.Path.{_≡_, refl, sym, ap, _∙_}
 use borrow.Author.Needs.{needs}
+use lib.IntN.{natAbs}
 use lib.ListN.{length}
+use Rattle.std.specs.shelf.Lists.{sum}
 use Rattle.std.specs.declared.option.Option.the-variants.{None}
 use Rattle.std.proofs.shelf.Lists.{refilled-is}
+use Rattle.std.proofs.shelf.Results.{made-from-err}
+use Rattle.std.proofs.shelf.Tests.{true≢false}
 use Rattle.spread.specs.Outcome.{unlessFault}
 use Rattle.spread.specs.Shares.{share, spreadFault}
 use Rattle.spread.proofs.Outcomes.{passed}
-use Rattle.monthfile.specs.Replies.{parts, replyBy}
+use Rattle.spread.proofs.Refusals.{fault-size}
+use Rattle.monthfile.specs.Replies.{parts, replyBy, isParts}
 use Rattle.monthfile.proofs.answer.spread_over.Needs as need
+
+pub returns-in-Err : need.returns-in-Err
+returns-in-Err g c =
+    let t = c .args .total .0 in
+    let ws = g .K·Key .weights (c .args .key .now) in
+    let f = fault-size t ws (length ws) refl ∙ c .in-Err .ensures tt in
+    record { reply = sym (ap (λ o. replyBy o (share t ws)) f); memory = λ no. absurd (true≢false no) }
+
+pub returns-in-Break-parts : need.returns-in-Break-parts
+returns-in-Break-parts g c =
+    let t = c .args .total .0 in
+    let ws = g .K·Key .weights (c .args .key .now) in
+    let f = fault-size t ws (length ws) refl ∙ c .in-rest .ensures tt .0 in
+    record {
+      reply = made-from-err (c .from-residual .result) _ (c .from-residual .ensures .0);
+      memory = λ _. ap (λ o. isParts (replyBy o (share t ws))) f;
+    }
 
 pub returns-in-Ok : need.returns-in-Ok
 returns-in-Ok g c =
@@ -20,4 +42,7 @@ returns-in-Ok g c =
     let e = passed (spreadFault t ws (length (c .deref-mut .result .now))) (said .answer) in
     let f : spreadFault t ws (length ws) ≡ None = ap (spreadFault t ws) (sym n) ∙ e in
     let is : c .spread .last .parts ≡ share t ws = said .parts ∙ ap (λ o. unlessFault o (c .deref-mut .result .now) (share t ws)) e in
-    ap parts (refilled-is v (c .spread .last .parts) m ∙ is) ∙ sym (ap (λ o. replyBy o (share t ws)) f)
+    record {
+      reply = ap parts (refilled-is v (c .spread .last .parts) m ∙ is) ∙ sym (ap (λ o. replyBy o (share t ws)) f);
+      memory = λ no. absurd (true≢false no);
+    }

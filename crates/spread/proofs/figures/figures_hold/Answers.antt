@@ -4,4 +4,4 @@ use Rattle.spread.proofs.figures.figures_hold.Needs as need
 
 pub returns : need.returns
 unfolding share part running spreadFault
-returns c = (refl, refl, refl, refl, refl, refl, refl, refl)
+returns c = (refl, refl, refl, refl, refl, refl, refl)

@@ -4,8 +4,8 @@ use native.Mathlib.Omega.{arith}
 use borrow.Author.Needs.{needs}
 use Rattle.spread.specs.Shares.{upto}
 use Rattle.spread.proofs.Prefixes.{upto-more, upto-whole, upto-all, sum-small}
-use Rattle.spread.proofs.cursor.walk.whole.Given.{Over}
-use Rattle.spread.proofs.cursor.walk.whole.Needs as need
+use Rattle.spread.proofs.cursor.walk.weight_sum.Given.{Over}
+use Rattle.spread.proofs.cursor.walk.weight_sum.Needs as need
 
 next : (g : Over) (c : need.After-weight-sum g) → c .loop-i .sum + c .weight-sum .result ≡ upto (g .K·Key .weights (c .args .key .now)) (c .loop-i .i + 1)
 next g c = omega (arith, c .loop-i .inv, c .weight-sum .ensures, upto-more (g .K·Key .weights (c .args .key .now)) (c .loop-i .i))
