@@ -26,7 +26,6 @@ use Rattle.monthfile.specs.declared.command.Weights.{Weights}
 use Rattle.monthfile.specs.declared.command.Weights.the-variants.{Flat, List as Listed, Line}
 use Rattle.std.specs.Of.Vec.{vec-items}
 use Rattle.monthfile.specs.Words.{ink, wordsOf}
-use Rattle.monthfile.specs.Lines.{comment-mark, commentless}
 use Rattle.monthfile.specs.Numbers.{widest, highest, lowest-size, minus, readOn, within, numberIn, mapOk, signedIn}
 use Rattle.monthfile.specs.Said.{say-list, say-spread, saidKey, said}
 use Rattle.monthfile.specs.Commands.{andThen, took, numbersOn, keyOf}
@@ -35,6 +34,7 @@ use Rattle.monthfile.specs.Shown.{weightText, weightsText, commandText}
 use Rattle.monthfile.specs.Fits.{Fits-u64, Fits-i64, Weights-fit, Command-fits}
 use Rattle.monthfile.proofs.Cuts.{first-word}
 use Rattle.monthfile.proofs.Digits.{own}
+use Rattle.monthfile.proofs.Plain.{plain-command, plain-commentless}
 
 -- the number of its digits
 some-length : (k : ℕ) → 0 < k → not (eqb k 0) ≡ true
@@ -112,38 +112,6 @@ weights-words : (ws : List ℕ) → All Fits-u64 ws → wordsOf (joined weightTe
 weights-words [] fit = refl
 weights-words (w ∷ ws) fit = decimal-then w (joined weightText ws) (fit .0) (starts-blank ws) ∙ ap (λ (l : List (List ℕ)). decimal w ∷ l) (weights-words ws (fit .1))
 
--- no comment starts in a number
-digit-uncommented : (c : ℕ) → asciiDigit c ≡ true → eqb c comment-mark ≡ false
-digit-uncommented c h = grind (arith, tells)
-
-digits-stay : (cs r : List ℕ) → allDigits cs ≡ true → commentless (cs ++ r) ≡ cs ++ commentless r
-digits-stay [] r h = refl
-digits-stay (c ∷ cs) r h =
-    let p = and-parts (asciiDigit c) (allDigits cs) h in
-    ap (λ t. cond t [] (c ∷ commentless (cs ++ r))) (digit-uncommented c (p .0)) ∙ ap (λ (l : List ℕ). c ∷ l) (digits-stay cs r (p .1))
-
-decimal-stays : (n : ℕ) (r : List ℕ) → Fits-u64 n → commentless (decimal n ++ r) ≡ decimal n ++ commentless r
-decimal-stays n r small = digits-stay (decimal n) r (digits-decimal own n small)
-
-decimal-stays-last : (n : ℕ) → Fits-u64 n → commentless (decimal n) ≡ decimal n
-decimal-stays-last n small = ap commentless (sym (append-nil (decimal n))) ∙ decimal-stays n [] small ∙ append-nil (decimal n)
-
-signed-stays : (z : ℤ) (r : List ℕ) → Fits-i64 z → commentless (signed z ++ r) ≡ signed z ++ commentless r
-signed-stays (pos n) r h = decimal-stays n r (omega arith)
-signed-stays (negsuc n) r h = ap (λ (l : List ℕ). 45 ∷ l) (decimal-stays (suc n) r (omega arith))
-
-weights-stay : (ws : List ℕ) → All Fits-u64 ws → commentless (joined weightText ws) ≡ joined weightText ws
-weights-stay [] fit = refl
-weights-stay (w ∷ ws) fit = ap (λ (l : List ℕ). 32 ∷ l) (decimal-stays w (joined weightText ws) (fit .0) ∙ ap (λ (l : List ℕ). decimal w ++ l) (weights-stay ws (fit .1)))
-
-key-stays : (w : Weights) → Weights-fit w → commentless (weightsText w) ≡ weightsText w
-key-stays (Flat n) fit = ap (λ (l : List ℕ). codes "flat " ++ l) (decimal-stays-last n fit)
-key-stays (Listed ws) fit = ap (λ (l : List ℕ). codes "list" ++ l) (weights-stay (vec-items ws) fit)
-key-stays (Line g a b) fit =
-    ap (λ (l : List ℕ). codes "line " ++ l)
-    (decimal-stays g _ (fit .0)
-    ∙ ap (λ (l : List ℕ). decimal g ++ 32 ∷ l) (decimal-stays (a .0) _ (fit .1) ∙ ap (λ (l : List ℕ). decimal (a .0) ++ 32 ∷ l) (decimal-stays-last (b .0) (fit .2))))
-
 key-back : (w : Weights) → Weights-fit w → keyOf (wordsOf (weightsText w)) ≡ Ok (saidKey w)
 key-back (Flat n) fit = ap (λ (ws : List (List ℕ)). keyOf (codes "flat" ∷ ws)) (decimal-last n fit) ∙ rw (took-back n [] fit) refl
 key-back (Listed ws) fit =
@@ -157,6 +125,6 @@ key-back (Line g a b) fit =
 
 pub back : (c : Command) → Command-fits c → lineOf (commandText c) ≡ asks (said c)
 back (Spread t w) fit =
-    ap (λ (l : List ℕ). meantBy (wordsOf (codes "spread " ++ l))) (signed-stays (t .0) _ (fit .0) ∙ ap (λ (l : List ℕ). signed (t .0) ++ 32 ∷ l) (key-stays w (fit .1)))
+    ap (λ (l : List ℕ). meantBy (wordsOf l)) (plain-commentless (commandText (Spread t w)) (plain-command (Spread t w) fit))
     ∙ ap (λ (ws : List (List ℕ)). meantBy (codes "spread" ∷ ws)) (signed-then (t .0) (32 ∷ weightsText w) (fit .0) refl)
     ∙ rw (signed-back (t .0) (fit .0)) (ap (λ r. outcome (andThen r (λ k. Ok (say-spread (t .0) k)))) (key-back w (fit .1)))

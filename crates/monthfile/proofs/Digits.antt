@@ -64,6 +64,3 @@ module _ (bs : List ℕ) (i : ℕ) where
         let e : n ≡ readOn 0 bs = sym (at-drop-all (readOn n) bs i h) ∙ inv in
         let fits : readOn 0 bs ≤ limit = omega (arith, e) in
         ap (λ (k : ℕ). Ok k) e ∙ sym (ap (λ t. cond t (within limit (readOn 0 bs)) (Err NotANumber)) d ∙ ap (λ t. cond t (Ok (readOn 0 bs)) (Err DoesNotFit)) (le-leb (readOn 0 bs) limit fits))
-
-pub not-numeral : (limit : ℕ) (bs : List ℕ) → numeral bs ≡ false → Err NotANumber ≡ numberIn limit bs
-not-numeral limit bs d = sym (ap (λ t. cond t (within limit (readOn 0 bs)) (Err NotANumber)) d)

@@ -1,11 +1,13 @@
 // What a line of a month file asks for, and how it is written.
 ghost use mathlib.Core.Path.{_≡_};
+ghost use mathlib.Core.List.{[], _∷_};
 ghost use Rattle.std.specs.Of.String.{string-bytes};
 ghost use Rattle.std.specs.Vec.{made};
 ghost use Rattle.std.specs.declared.option.Option.the-variants.{Some};
 ghost use Rattle.std.specs.shelf.Lists.{All};
 ghost use Rattle.monthfile.specs.Shown.{weightsText, commandText};
 ghost use Rattle.monthfile.specs.Fits.{Fits-u64, Fits-i64, Weights-fit, Command-fits};
+ghost use Rattle.monthfile.specs.Lines.{linesOf};
 ghost use Rattle.monthfile.specs.Said.{said};
 ghost use Rattle.monthfile.specs.Meaning.{asks, lineOf};
 use spread::units::Kwh;
@@ -111,9 +113,10 @@ fn command_fits(command: &Command)
     }
 }
 
-// The line that asks for a command. It is read again as that command.
+// The line that asks for a command: one line, which is read again as that command.
 pub fn written(heap: Global, command: &Command) -> Result<String, AllocError>
     ensures text { λ r. ⌜ made r (λ s. string-bytes s ≡ commandText (now (command .entry))) ⌝ }
+    ensures line { λ r. ⌜ made r (λ s. linesOf (string-bytes s) ≡ string-bytes s ∷ []) ⌝ }
     ensures reads { λ r. ⌜ made r (λ s. lineOf (string-bytes s) ≡ asks (said (now (command .entry)))) ⌝ }
 {
     command_fits(command);

@@ -13,7 +13,7 @@ its number, a colon, and
   ok ...                        what was worked out
   refused NUMBER LAYER: words   the rules refuse it
   error: words                  the line is not understood
-The status is 1 if there is an error line or FILE cannot be read, else 0.
+The status is 0 if every line is understood, refused ones too, else 1.
 
 One command a line; words are separated by spaces or tabs, and # starts a comment.
   spread TOTAL flat N           TOTAL over N equal weights
