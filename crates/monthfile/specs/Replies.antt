@@ -17,6 +17,7 @@ use Rattle.spread.specs.declared.fault.SpreadFault.the-variants.{Places, TooLar
 use Rattle.spread.specs.declared.units.Kwh.{Kwh}
 use Rattle.spread.specs.Faults.{told}
 use Rattle.spread.specs.Keys.{flat, line, flatFault, listFault, lineFault}
+use Rattle.spread.specs.Laws.{Lawful}
 use Rattle.spread.specs.Outcome.{orElse}
 use Rattle.spread.specs.Shares.{share, spreadFault}
 use Rattle.monthfile.specs.declared.answer.Answer.{Answer}
@@ -38,6 +39,11 @@ abbrev pub isParts : Reply → Bool
 isParts (parts es) = true
 isParts (refused f) = false
 
+-- the parts of t over ws, where there are parts, keep the laws of the spread
+abbrev pub Keeps-laws : ℤ → List ℕ → Reply → Type 0
+Keeps-laws t ws (parts es) = Lawful t ws es
+Keeps-laws t ws (refused f) = Unit {0}
+
 -- refused by f, if there is one, else es
 abbrev pub replyBy : Option SpreadFault → List Kwh → Reply
 replyBy None es = parts es
@@ -58,6 +64,10 @@ abbrev pub keyWeights : SaidKey → List ℕ
 keyWeights (say-flat n) = flat n
 keyWeights (say-list ws) = ws
 keyWeights (say-line g a b) = line g a b
+
+-- the same of the answer to a command
+abbrev pub Lawful-reply : Said → Reply → Type 0
+Lawful-reply (say-spread t k) r = Keeps-laws t (keyWeights k) r
 
 -- the key is made first, then the total is spread over it
 abbrev pub replyTo : Said → Reply

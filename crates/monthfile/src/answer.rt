@@ -5,7 +5,7 @@ ghost use Rattle.std.specs.Results.{isOk};
 ghost use Rattle.std.specs.Vec.{made};
 ghost use Rattle.std.specs.declared.option.Option.the-variants.{Some};
 ghost use Rattle.monthfile.specs.Said.{said};
-ghost use Rattle.monthfile.specs.Replies.{tells, spreadReply, replyTo, isParts, reasonText, layerText, replyText};
+ghost use Rattle.monthfile.specs.Replies.{tells, Keeps-laws, Lawful-reply, spreadReply, replyTo, isParts, reasonText, layerText, replyText};
 use crate::command::Command;
 use crate::command::Weights;
 use spread::cursor::Cursor;
@@ -79,6 +79,7 @@ pub impl fmt::Display for Answer as AnswerDisplay {
 
 // The parts of a total over a key. What is refused takes no memory.
 fn spread_over<K: Key>(heap: Global, key: &K, total: Kwh) -> Result<Answer, AllocError>
+    ensures law { λ r. ⌜ made r (λ a. Keeps-laws (total .0) (weights (now (key .entry))) (tells a)) ⌝ }
     ensures reply { λ r. ⌜ made r (λ a. tells a ≡ spreadReply (total .0) (weights (now (key .entry)))) ⌝ }
     ensures memory { λ r. ⌜ (isOk r ≡ false → isParts (spreadReply (total .0) (weights (now (key .entry)))) ≡ true) ⌝ }
 {
@@ -95,6 +96,7 @@ fn spread_over<K: Key>(heap: Global, key: &K, total: Kwh) -> Result<Answer, Allo
 impl Command {
     // Does what the command asks for. Only parts take memory.
     pub fn answer(&self, heap: Global) -> Result<Answer, AllocError>
+        ensures law { λ r. ⌜ made r (λ a. Lawful-reply (said (now (self .entry))) (tells a)) ⌝ }
         ensures reply { λ r. ⌜ made r (λ a. tells a ≡ replyTo (said (now (self .entry)))) ⌝ }
         ensures memory { λ r. ⌜ (isOk r ≡ false → isParts (replyTo (said (now (self .entry)))) ≡ true) ⌝ }
     {
