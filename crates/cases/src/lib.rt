@@ -1,14 +1,6 @@
 // Cases of the whole product: figures, edges, and each refusal.
 #[cfg(test)]
-mod book_files;
-#[cfg(test)]
-mod books;
-#[cfg(test)]
-mod files;
-#[cfg(test)]
 mod keys;
-#[cfg(test)]
-mod lent;
 #[cfg(test)]
 mod month_files;
 #[cfg(test)]

@@ -1,9 +1,8 @@
 // Month files and what they are answered with.
-use crate::files::answered;
-use book::posting::Posting;
-use monthfile::command::{BookKind, Command, Weights, written};
+use monthfile::command::{Command, Weights, written};
+use monthfile::output::run;
 use monthfile::read::{LineMeaning, read_line};
-use spread::units::{Amount, Kwh, Metered};
+use spread::units::{Kwh, Metered};
 use std::alloc::Global;
 use std::process::Abort;
 use std::test::Fail;
@@ -16,16 +15,30 @@ const NO_WEIGHT: &str = "1: refused 33 spread: the total is not 0 and the weight
 const NO_KEY: &str =
     "1: refused 34 spread: over 745 places, a weight over 10,000,000,000, or a line with a gap over 8 or a reading over 2,000,000\n";
 
+// A file's whole answer, and whether a line of it is no command.
+fn answered(
+    rt: &impl Abort,
+    heap: Global,
+    file: &[u8],
+    text: &str,
+    mistaken: bool,
+) -> Result<(), Fail> {
+    let output = run(heap, file)?;
+    assert_eq!(rt; output.text.as_str(), text);
+    assert_eq!(rt; output.mistaken, mistaken);
+    Ok(())
+}
+
 // Files of one line, each with the same answer.
 fn all_answered(
     rt: &impl Abort,
     heap: Global,
     files: &[&str],
     text: &str,
-    faulty: bool,
+    mistaken: bool,
 ) -> Result<(), Fail> {
     for file in files {
-        answered(rt, heap, file.as_bytes(), text, faulty).note(*file)?;
+        answered(rt, heap, file.as_bytes(), text, mistaken).note(*file)?;
     }
     Ok(())
 }
@@ -246,8 +259,14 @@ fn long_lines(rt: HostRuntime) -> Result<(), Fail> {
 }
 
 // The line of a command, and whether it is read again as one.
-fn written_as(rt: &impl Abort, heap: Global, command: Command, line: &str) -> Result<(), Fail> {
-    let text = written(heap, &command)?;
+fn written_as(
+    rt: &impl Abort,
+    heap: Global,
+    total: Kwh,
+    over: Weights,
+    line: &str,
+) -> Result<(), Fail> {
+    let text = written(heap, &Command::Spread { total, over })?;
     assert_eq!(rt; text.as_str(), line);
     match read_line(heap, text.as_bytes())? {
         LineMeaning::Asks(again) => {
@@ -259,20 +278,10 @@ fn written_as(rt: &impl Abort, heap: Global, command: Command, line: &str) -> Re
     }
 }
 
-fn spread_as(
-    rt: &impl Abort,
-    heap: Global,
-    total: Kwh,
-    over: Weights,
-    line: &str,
-) -> Result<(), Fail> {
-    written_as(rt, heap, Command::Spread { total, over }, line)
-}
-
 #[test]
-fn written_spreads(rt: HostRuntime) -> Result<(), Fail> {
+fn written_commands(rt: HostRuntime) -> Result<(), Fail> {
     let heap = rt.alloc();
-    spread_as(
+    written_as(
         &rt,
         heap,
         Kwh(i64::MIN),
@@ -280,14 +289,14 @@ fn written_spreads(rt: HostRuntime) -> Result<(), Fail> {
         "spread -9223372036854775808 flat 18446744073709551615",
     )?;
     let list = [0, 5, u64::MAX].to_vec(heap)?;
-    spread_as(
+    written_as(
         &rt,
         heap,
         Kwh(0),
         Weights::List(list),
         "spread 0 list 0 5 18446744073709551615",
     )?;
-    spread_as(
+    written_as(
         &rt,
         heap,
         Kwh(i64::MAX),
@@ -295,7 +304,7 @@ fn written_spreads(rt: HostRuntime) -> Result<(), Fail> {
         "spread 9223372036854775807 list",
     )?;
     let (before, after) = (Metered(10), Metered(20));
-    spread_as(
+    written_as(
         &rt,
         heap,
         Kwh(75),
@@ -306,43 +315,4 @@ fn written_spreads(rt: HostRuntime) -> Result<(), Fail> {
         },
         "spread 75 line 4 10 20",
     )
-}
-
-#[test]
-fn written_on_books(rt: HostRuntime) -> Result<(), Fail> {
-    let heap = rt.alloc();
-    let (journal, totals) = (BookKind::Journal, BookKind::Totals);
-    written_as(
-        &rt,
-        heap,
-        Command::Book {
-            kind: journal,
-            room: 0,
-        },
-        "book journal 0",
-    )?;
-    written_as(
-        &rt,
-        heap,
-        Command::Book {
-            kind: totals,
-            room: u64::MAX,
-        },
-        "book totals 18446744073709551615",
-    )?;
-    let posting = Posting {
-        debit: 255,
-        credit: 0,
-        size: Amount(u64::MAX),
-    };
-    written_as(
-        &rt,
-        heap,
-        Command::Post(posting),
-        "post 255 0 18446744073709551615",
-    )?;
-    written_as(&rt, heap, Command::Balance(15), "balance 15")?;
-    written_as(&rt, heap, Command::Room, "room")?;
-    written_as(&rt, heap, Command::Journal, "journal")?;
-    written_as(&rt, heap, Command::Balances, "balances")
 }

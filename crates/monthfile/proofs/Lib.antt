@@ -3,5 +3,5 @@ pub mod Breaks
 pub mod Digits
 pub mod Texts
 pub mod Plain
-pub mod Tails
 pub mod Back
+pub mod Memory

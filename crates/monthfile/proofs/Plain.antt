@@ -1,88 +1,81 @@
--- What is written of a command is plain: words of small letters, digits and minus signs, with spaces between. Assumes nothing.
-use Rattle.std.proofs.Common.{◌≡◌, ℕ, suc, ◌<◌, Bool, true, false, cond, ◌&&◌, ◌||◌, eqb, leb, List, [], ◌∷◌, ◌++◌, length, ℤ, pos, negsuc, decimal, refl, ap, ◌∙◌, arith}
+-- What is written of a command is plain: small letters, digits, minus signs and spaces. Assumes nothing.
+use Rattle.std.proofs.Common.{◌≡◌, ℕ, suc, Bool, true, false, cond, ◌&&◌, ◌||◌, eqb, leb, List, [], ◌∷◌, ◌++◌, ℤ, pos, negsuc, vec_items, decimal, refl, ap, ◌∙◌, arith}
+use Rattle.std.specs.List.{flat_map, AllByRecursion as All}
 use Rattle.std.specs.Char.{is_ascii_digit}
 use Rattle.std.specs.Fmt.{signed_decimal}
 use Rattle.std.specs.Str.{all_ascii_digits}
-use Rattle.std.proofs.lemmas.Fmt.{digits_decimal, decimal_nonempty}
+use Rattle.std.proofs.lemmas.Fmt.{digits_decimal}
 use Rattle.std.proofs.lemmas.Bool.{and_parts, and_from, or_left}
 use Rattle.std.proofs.lemmas.Bool.Decides.{nat_tests}
-use Rattle.monthfile.specs.Words.{space, ink, onto}
+use Rattle.monthfile.specs.declared.command.Command.{Command}
+use Rattle.monthfile.specs.declared.command.Command.TheVariants.{Spread}
+use Rattle.monthfile.specs.declared.command.Weights.{Weights}
+use Rattle.monthfile.specs.declared.command.Weights.TheVariants.{Flat, List as Listed, Line}
+use Rattle.monthfile.specs.Words.{onto}
 use Rattle.monthfile.specs.Lines.{line_break, comment_mark, lines_of, commentless}
-use Rattle.monthfile.specs.Fits.{FitsU64, FitsI64}
+use Rattle.monthfile.specs.Shown.{weight_text, weights_text, command_text}
+use Rattle.monthfile.specs.Fits.{FitsU64, FitsI64, WeightsFit, CommandFits}
 use Rattle.monthfile.proofs.Digits.{own}
 
--- each byte passes a test
-abbrev pub every : (ℕ → Bool) → List ℕ → Bool
-every p [] = true
-every p (b ∷ bs) = p b && every p bs
+abbrev plain : ℕ → Bool
+plain b = is_ascii_digit b || ((leb 97 b && leb b 122) || (eqb b 32 || eqb b 45))
 
-pub every_append : (p : ℕ → Bool) (xs ys : List ℕ) → every p xs ≡ true → every p ys ≡ true → every p (xs ++ ys) ≡ true
-every_append p [] ys h k = k
-every_append p (x ∷ xs) ys h k =
-    let t = and_parts (p x) (every p xs) h in
-    and_from (p x) (every p (xs ++ ys)) t.0 (every_append p xs ys t.1 k)
+abbrev plain_text : List ℕ → Bool
+plain_text [] = true
+plain_text (b ∷ bs) = plain b && plain_text bs
 
-pub every_weaker : (p q : ℕ → Bool) → ((b : ℕ) → p b ≡ true → q b ≡ true) → (bs : List ℕ) → every p bs ≡ true → every q bs ≡ true
-every_weaker p q w [] h = refl
-every_weaker p q w (b ∷ bs) h =
-    let t = and_parts (p b) (every p bs) h in
-    and_from (q b) (every q bs) (w b t.0) (every_weaker p q w bs t.1)
+plain-append : (xs bs : List ℕ) → plain_text xs ≡ true → plain_text bs ≡ true → plain_text (xs ++ bs) ≡ true
+plain-append [] bs h k = k
+plain-append (x ∷ xs) bs h k =
+    let p = and_parts (plain x) (plain_text xs) h in
+    and_from (plain x) (plain_text (xs ++ bs)) p.0 (plain-append xs bs p.1 k)
 
--- a byte of a written word: a digit, a small letter or the minus sign
-abbrev pub glyph : ℕ → Bool
-glyph b = is_ascii_digit b || ((leb 97 b && leb b 122) || eqb b 45)
+plain-digits : (cs : List ℕ) → all_ascii_digits cs ≡ true → plain_text cs ≡ true
+plain-digits [] h = refl
+plain-digits (c ∷ cs) h =
+    let p = and_parts (is_ascii_digit c) (all_ascii_digits cs) h in
+    and_from (plain c) (plain_text cs) (or_left (is_ascii_digit c) _ p.0) (plain-digits cs p.1)
 
--- such a byte or a space
-abbrev pub plain : ℕ → Bool
-plain b = glyph b || eqb b space
+plain-decimal : (n : ℕ) → FitsU64 n → plain_text (decimal n) ≡ true
+plain-decimal n small = plain-digits (decimal n) (digits_decimal own n small)
 
-pub glyph-ink : (b : ℕ) → glyph b ≡ true → ink b ≡ true
-glyph-ink b h = grind (arith, nat_tests)
+plain-signed : (z : ℤ) → FitsI64 z → plain_text (signed_decimal z) ≡ true
+plain-signed (pos n) h = plain-decimal n (omega arith)
+plain-signed (negsuc n) h = plain-decimal (suc n) (omega arith)
 
-pub glyph-plain : (b : ℕ) → glyph b ≡ true → plain b ≡ true
-glyph-plain b h = or_left (glyph b) _ h
+plain_list : (ws : List ℕ) → All FitsU64 ws → plain_text (flat_map weight_text ws) ≡ true
+plain_list [] fit = refl
+plain_list (w ∷ ws) fit = plain-append (decimal w) (flat_map weight_text ws) (plain-decimal w fit.0) (plain_list ws fit.1)
 
--- a written word: such bytes, at least one
-abbrev pub word : List ℕ → Bool
-word [] = false
-word (b ∷ bs) = glyph b && every glyph bs
+plain_key : (w : Weights) → WeightsFit w → plain_text (weights_text w) ≡ true
+plain_key (Flat n) fit = plain-decimal n fit
+plain_key (Listed ws) fit = plain_list (vec_items ws) fit
+plain_key (Line g a b) fit =
+    plain-append (decimal g) _ (plain-decimal g fit.0) (plain-append (decimal a.0) _ (plain-decimal a.0 fit.1) (plain-decimal b.0 fit.2))
 
-glyph-digits : (cs : List ℕ) → all_ascii_digits cs ≡ true → every glyph cs ≡ true
-glyph-digits [] h = refl
-glyph-digits (c ∷ cs) h =
-    let t = and_parts (is_ascii_digit c) (all_ascii_digits cs) h in
-    and_from (glyph c) (every glyph cs) (or_left (is_ascii_digit c) _ t.0) (glyph-digits cs t.1)
-
-word_some : (w : List ℕ) → 0 < length w → every glyph w ≡ true → word w ≡ true
-word_some [] some h = let z : ⊥ = omega arith in absurd z
-word_some (b ∷ bs) some h = h
-
-glyph_decimal : (n : ℕ) → FitsU64 n → every glyph (decimal n) ≡ true
-glyph_decimal n small = glyph-digits (decimal n) (digits_decimal own n small)
-
-pub word-decimal : (n : ℕ) → FitsU64 n → word (decimal n) ≡ true
-word-decimal n small = word_some (decimal n) (decimal_nonempty n small) (glyph_decimal n small)
-
-pub word-signed : (z : ℤ) → FitsI64 z → word (signed_decimal z) ≡ true
-word-signed (pos n) h = word-decimal n (omega arith)
-word-signed (negsuc n) h = glyph_decimal (suc n) (omega arith)
+pub plain_command : (c : Command) → CommandFits c → plain_text (command_text c) ≡ true
+plain_command (Spread t w) fit = plain-append (signed_decimal t.0) _ (plain-signed t.0 fit.0) (plain_key w fit.1)
 
 -- a plain text has no comment
 no_comment : (b : ℕ) → plain b ≡ true → eqb b comment_mark ≡ false
 no_comment b h = grind (arith, nat_tests)
 
-pub plain-commentless : (bs : List ℕ) → every plain bs ≡ true → commentless bs ≡ bs
+pub plain-commentless : (bs : List ℕ) → plain_text bs ≡ true → commentless bs ≡ bs
 plain-commentless [] h = refl
 plain-commentless (b ∷ bs) h =
-    let t = and_parts (plain b) (every plain bs) h in
-    ap (λ t. cond t [] (b ∷ commentless bs)) (no_comment b t.0) ∙ ap (λ (l : List ℕ). b ∷ l) (plain-commentless bs t.1)
+    let p = and_parts (plain b) (plain_text bs) h in
+    ap (λ t. cond t [] (b ∷ commentless bs)) (no_comment b p.0) ∙ ap (λ (l : List ℕ). b ∷ l) (plain-commentless bs p.1)
 
 -- and is one line
 no_break : (b : ℕ) → plain b ≡ true → eqb b line_break ≡ false
 no_break b h = grind (arith, nat_tests)
 
-pub plain-line : (b : ℕ) (bs : List ℕ) → every plain (b ∷ bs) ≡ true → lines_of (b ∷ bs) ≡ (b ∷ bs) ∷ []
+pub plain-line : (b : ℕ) (bs : List ℕ) → plain_text (b ∷ bs) ≡ true → lines_of (b ∷ bs) ≡ (b ∷ bs) ∷ []
 plain-line b [] h = ap (λ t. cond t ([] ∷ []) ((b ∷ []) ∷ [])) (no_break b (and_parts (plain b) true h).0)
 plain-line b (c ∷ cs) h =
-    let t = and_parts (plain b) (every plain (c ∷ cs)) h in
-    ap (λ t. cond t ([] ∷ lines_of (c ∷ cs)) (onto b (lines_of (c ∷ cs)))) (no_break b t.0) ∙ ap (onto b) (plain-line c cs t.1)
+    let p = and_parts (plain b) (plain_text (c ∷ cs)) h in
+    ap (λ t. cond t ([] ∷ lines_of (c ∷ cs)) (onto b (lines_of (c ∷ cs)))) (no_break b p.0) ∙ ap (onto b) (plain-line c cs p.1)
+
+-- a command is one line
+pub one_line : (c : Command) → CommandFits c → lines_of (command_text c) ≡ command_text c ∷ []
+one_line (Spread t w) fit = plain-line _ _ (plain_command (Spread t w) fit)

@@ -1,13 +1,12 @@
 -- What is written of a fault. Assumes nothing.
 use Rattle.std.specs.Prelude.{ℕ, List, codes}
 use Rattle.monthfile.specs.declared.fault.LineFault.{LineFault}
-use Rattle.monthfile.specs.declared.fault.LineFault.TheVariants.{UnknownCommand, UnknownKey, UnknownBook, TooFewWords, TooManyWords, NotANumber, DoesNotFit}
+use Rattle.monthfile.specs.declared.fault.LineFault.TheVariants.{UnknownCommand, UnknownKey, TooFewWords, TooManyWords, NotANumber, DoesNotFit}
 
 -- the words of a fault
 abbrev pub fault_text : LineFault → List ℕ
 fault_text UnknownCommand = codes "unknown command"
 fault_text UnknownKey = codes "unknown key"
-fault_text UnknownBook = codes "unknown book"
 fault_text TooFewWords = codes "too few words"
 fault_text TooManyWords = codes "too many words"
 fault_text NotANumber = codes "not a number"

@@ -3,13 +3,9 @@ use Rattle.std.specs.Prelude.{ℕ, ◌^◌, ◌<◌, ℤ, vec_items}
 use Rattle.std.specs.Int.Signed.{mag}
 use Rattle.std.specs.List.{AllByRecursion as All}
 use Rattle.monthfile.specs.declared.command.Command.{Command}
-use Rattle.monthfile.specs.declared.command.Command.TheVariants.{Spread, Book, Post, Balance, Room, Journal, Balances}
+use Rattle.monthfile.specs.declared.command.Command.TheVariants.{Spread}
 use Rattle.monthfile.specs.declared.command.Weights.{Weights}
 use Rattle.monthfile.specs.declared.command.Weights.TheVariants.{Flat, List as Listed, Line}
-
--- a number that a u8 holds
-abbrev pub FitsU8 : ℕ → Type 0
-FitsU8 n = n < 2 ^ 8
 
 -- a number that a u64 holds
 abbrev pub FitsU64 : ℕ → Type 0
@@ -28,9 +24,3 @@ WeightsFit (Line g a b) = FitsU64 g × FitsU64 a.0 × FitsU64 b.0
 -- each number of a command fits
 abbrev pub CommandFits : Command → Type 0
 CommandFits (Spread t w) = FitsI64 t.0 × WeightsFit w
-CommandFits (Book k n) = FitsU64 n
-CommandFits (Post p) = FitsU8 p.debit × FitsU8 p.credit × FitsU64 p.size.0
-CommandFits (Balance a) = FitsU8 a
-CommandFits Room = Unit {0}
-CommandFits Journal = Unit {0}
-CommandFits Balances = Unit {0}

@@ -9,3 +9,5 @@ pub mod Said
 pub mod Commands
 pub mod Meaning
 pub mod Reading
+pub mod Replies
+pub mod Output

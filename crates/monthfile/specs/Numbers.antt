@@ -16,10 +16,6 @@ highest = 9223372036854775807
 abbrev pub lowest_size : ℕ
 lowest_size = 9223372036854775808
 
--- the largest u8, which an account is written as, whichever accounts a book has
-abbrev pub widest_account : ℕ
-widest_account = 255
-
 -- the byte of the minus sign
 abbrev pub minus : ℕ
 minus = 45

@@ -1,9 +1,7 @@
 -- A command as it is said, whatever memory holds it. Assumes nothing.
 use Rattle.std.specs.Prelude.{ℕ, List, ℤ, vec_items}
-use Rattle.book.specs.declared.posting.Posting.{Posting}
-use Rattle.monthfile.specs.declared.command.BookKind.{BookKind}
 use Rattle.monthfile.specs.declared.command.Command.{Command}
-use Rattle.monthfile.specs.declared.command.Command.TheVariants.{Spread, Book, Post, Balance, Room, Journal, Balances}
+use Rattle.monthfile.specs.declared.command.Command.TheVariants.{Spread}
 use Rattle.monthfile.specs.declared.command.Weights.{Weights}
 use Rattle.monthfile.specs.declared.command.Weights.TheVariants.{Flat, List as Listed, Line}
 
@@ -13,15 +11,9 @@ pub data SaidKey : Type 0 where
   say_list : List ℕ → SaidKey
   say_line : ℕ → ℕ → ℕ → SaidKey
 
--- a command: a total over a key, a book with its room, a posting, the balance of an account, the room left, the journal, all balances
+-- a command: the total and the key that it is spread over
 pub data Said : Type 0 where
   say_spread : ℤ → SaidKey → Said
-  say_book : BookKind → ℕ → Said
-  say_post : Posting → Said
-  say_balance : ℕ → Said
-  say_room : Said
-  say_journal : Said
-  say_balances : Said
 
 -- what weights say
 abbrev pub said_key : Weights → SaidKey
@@ -32,9 +24,3 @@ said_key (Line g a b) = say_line g a.0 b.0
 -- what a command says
 abbrev pub said : Command → Said
 said (Spread t w) = say_spread t.0 (said_key w)
-said (Book k n) = say_book k n
-said (Post p) = say_post p
-said (Balance a) = say_balance a
-said Room = say_room
-said Journal = say_journal
-said Balances = say_balances

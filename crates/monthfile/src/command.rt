@@ -1,13 +1,12 @@
 // What a line of a month file asks for, and how it is written.
 ghost use Rattle.std.specs.Prelude.{◌≡◌, [], ◌∷◌, IfOk, Some, string_bytes};
 ghost use Rattle.std.specs.List.{AllByRecursion as All};
-ghost use Rattle.monthfile.specs.Shown.{kind_text, weights_text, command_text};
-ghost use Rattle.monthfile.specs.Fits.{FitsU8, FitsU64, FitsI64, WeightsFit, CommandFits};
+ghost use Rattle.monthfile.specs.Shown.{weights_text, command_text};
+ghost use Rattle.monthfile.specs.Fits.{FitsU64, FitsI64, WeightsFit, CommandFits};
 ghost use Rattle.monthfile.specs.Lines.{lines_of};
 ghost use Rattle.monthfile.specs.Said.{said};
 ghost use Rattle.monthfile.specs.Meaning.{asks, line_of};
 
-use book::posting::Posting;
 use spread::units::{Kwh, Metered};
 use std::alloc::{AllocError, Global};
 use std::fmt;
@@ -27,27 +26,9 @@ pub enum Weights {
     },
 }
 
-// What a book keeps: every posting, or the balances alone.
-#[derive(Clone, Copy, PartialEq, Eq, Debug)]
-pub enum BookKind {
-    Journal,
-    Totals,
-}
-
 #[derive(Drop)]
 pub enum Command {
     Spread { total: Kwh, over: Weights },
-    // a new book with room for so many postings
-    Book { kind: BookKind, room: u64 },
-    Post(Posting),
-    // of one account
-    Balance(u8),
-    // how many more postings the book takes
-    Room,
-    // every posting of the book
-    Journal,
-    // of every account
-    Balances,
 }
 
 impl fmt::Display for Weights {
@@ -72,15 +53,6 @@ impl fmt::Display for Weights {
     }
 }
 
-fn kind_name(kind: BookKind) -> &'static str
-    ensures { result.now ≡ kind_text kind }
-{
-    match kind {
-        BookKind::Journal => "journal",
-        BookKind::Totals => "totals",
-    }
-}
-
 impl fmt::Display for Command {
     ghost output = { λ c. Some (command_text c) };
 
@@ -90,29 +62,11 @@ impl fmt::Display for Command {
                 let energy = total.0;
                 write!(f, "spread {energy} {over}")
             }
-            Command::Book { kind, room } => {
-                let name = kind_name(*kind);
-                write!(f, "book {name} {room}")
-            }
-            Command::Post(posting) => {
-                let debit = posting.debit;
-                let credit = posting.credit;
-                let size = posting.size.0;
-                write!(f, "post {debit} {credit} {size}")
-            }
-            Command::Balance(account) => write!(f, "balance {account}"),
-            Command::Room => f.write_str("room"),
-            Command::Journal => f.write_str("journal"),
-            Command::Balances => f.write_str("balances"),
         }
     }
 }
 
-// A number is known to fit its type only where code holds it, so each number of a command is handed to one of these.
-fn fits_small(n: u8)
-    ensures { FitsU8 n }
-{}
-
+// A number is known to fit its type only where code holds it, so each number of a command is handed to one of these two.
 fn fits(n: u64)
     ensures { FitsU64 n }
 {}
@@ -151,14 +105,6 @@ fn command_fits(command: &Command)
             fits_signed(total.0);
             weights_fit(over);
         }
-        Command::Book { kind: _, room } => fits(*room),
-        Command::Post(posting) => {
-            fits_small(posting.debit);
-            fits_small(posting.credit);
-            fits(posting.size.0);
-        }
-        Command::Balance(account) => fits_small(*account),
-        Command::Room | Command::Journal | Command::Balances => {}
     }
 }
 

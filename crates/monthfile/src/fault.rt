@@ -10,8 +10,6 @@ pub enum LineFault {
     UnknownCommand,
     // the word after the total names no key
     UnknownKey,
-    // the word after `book` names no kind of book
-    UnknownBook,
     TooFewWords,
     TooManyWords,
     // a word that is not digits, or has none
@@ -27,7 +25,6 @@ impl LineFault {
         match self {
             LineFault::UnknownCommand => "unknown command",
             LineFault::UnknownKey => "unknown key",
-            LineFault::UnknownBook => "unknown book",
             LineFault::TooFewWords => "too few words",
             LineFault::TooManyWords => "too many words",
             LineFault::NotANumber => "not a number",

@@ -1,9 +1,10 @@
 // The month file: one command a line, read from bytes and written as text.
+pub mod answer;
 pub mod command;
 pub mod fault;
-pub mod lines;
+mod lines;
 mod number;
+pub mod output;
 pub mod read;
 mod scan;
-mod take;
 mod words;

@@ -26,7 +26,7 @@ pub fn next_line(text: &[u8]) -> Option<(&[u8], &[u8])>
 }
 
 // The line up to its comment.
-pub(crate) fn uncommented(line: &[u8]) -> &[u8]
+pub fn uncommented(line: &[u8]) -> &[u8]
     ensures value { result.now ≡ commentless line.now }
 {
     let (said, _) = line.split_at(front(&Other(COMMENT), line));

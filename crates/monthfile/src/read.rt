@@ -1,21 +1,20 @@
 // A line of a month file, read as a command.
-ghost use Rattle.std.specs.Prelude.{◌≡◌, true, false, [], ◌∷◌, is_ok, IfOk, vec_items};
+ghost use Rattle.std.specs.Prelude.{◌≡◌, ◌≤◌, true, false, [], ◌∷◌, is_ok, IfOk, vec_items};
+ghost use Rattle.std.specs.Str.{bytes_eq};
 ghost use Rattle.monthfile.specs.declared.read.Stop.TheVariants.{Fault, NoMemory};
 ghost use Rattle.monthfile.specs.Words.{words_of};
 ghost use Rattle.monthfile.specs.Lines.{commentless};
 ghost use Rattle.monthfile.specs.Said.{said, said_key};
-ghost use Rattle.monthfile.specs.Commands.{numbers_on, flat_of, list_of, straight_of, key_of, spread_of, alone, book_of, post_of, balance_of, on_book_of, command_of, list_first, list_second, takes_memory};
+ghost use Rattle.monthfile.specs.Commands.{took, took_signed, ended, numbers_on, flat_of, list_of, straight_of, key_of, spread_of, command_of, list_first, list_second, takes_memory};
 ghost use Rattle.monthfile.specs.Meaning.{line_of};
 ghost use Rattle.monthfile.specs.Reading.{said_line, Reads, ReadsOrWants};
 
 use crate::command::{Command, Weights};
 use crate::fault::LineFault;
 use crate::lines::uncommented;
-use crate::number::number;
-use crate::take::{end, is, next_account, next_kind, next_number, next_total};
+use crate::number::{number, signed_number};
 use crate::words::next_word;
-use book::posting::Posting;
-use spread::units::{Amount, Metered};
+use spread::units::{Kwh, Metered};
 use std::alloc::{AllocError, AllocFailed, Global};
 
 #[derive(Drop)]
@@ -46,6 +45,44 @@ impl<T: Drop> From<AllocFailed<T>> for Stop {
 
     fn from(_refused: AllocFailed<T>) -> Stop {
         Stop::NoMemory
+    }
+}
+
+// Whether a word is a name.
+fn is(word: &[u8], name: &str) -> bool
+    ensures { result ≡ bytes_eq word.now name.now }
+{
+    word == name.as_bytes()
+}
+
+// The number in the next word, and what follows it.
+fn next_number(line: &[u8], limit: u64) -> Result<(u64, &[u8]), LineFault>
+    ensures value { Reads (λ p. (p.0, words_of p.1.now)) (took limit (words_of line.now)) result }
+    ensures bound { IfOk result (λ p. p.0 ≤ limit) }
+{
+    let Some((word, rest)) = next_word(line) else {
+        return Err(LineFault::TooFewWords);
+    };
+    Ok((number(word, limit)?, rest))
+}
+
+// The total in the next word, and what follows it.
+fn next_total(line: &[u8]) -> Result<(Kwh, &[u8]), LineFault>
+    ensures { Reads (λ p. (p.0.0, words_of p.1.now)) (took_signed (words_of line.now)) result }
+{
+    let Some((word, rest)) = next_word(line) else {
+        return Err(LineFault::TooFewWords);
+    };
+    Ok((Kwh(signed_number(word)?), rest))
+}
+
+// No word is left.
+fn end(line: &[u8]) -> Result<(), LineFault>
+    ensures { Reads (λ u. u) (ended (words_of line.now)) result }
+{
+    match next_word(line) {
+        Some(_) => Err(LineFault::TooManyWords),
+        None => Ok(()),
     }
 }
 
@@ -116,79 +153,14 @@ fn spread_command(heap: Global, line: &[u8]) -> Result<Command, Stop>
     Ok(Command::Spread { total, over })
 }
 
-// A command, which no further words may follow.
-fn alone(command: Command, line: &[u8]) -> Result<Command, LineFault>
-    ensures { Reads said (alone (said command) (words_of line.now)) result }
-{
-    end(line)?;
-    Ok(command)
-}
-
-fn book_command(line: &[u8]) -> Result<Command, LineFault>
-    ensures { Reads said (book_of (words_of line.now)) result }
-{
-    let (kind, line) = next_kind(line)?;
-    let (room, line) = next_number(line, u64::MAX)?;
-    end(line)?;
-    Ok(Command::Book { kind, room })
-}
-
-fn post_command(line: &[u8]) -> Result<Command, LineFault>
-    ensures { Reads said (post_of (words_of line.now)) result }
-{
-    let (debit, line) = next_account(line)?;
-    let (credit, line) = next_account(line)?;
-    let (size, line) = next_number(line, u64::MAX)?;
-    end(line)?;
-    let size = Amount(size);
-    Ok(Command::Post(Posting {
-        debit,
-        credit,
-        size,
-    }))
-}
-
-fn balance_command(line: &[u8]) -> Result<Command, LineFault>
-    ensures { Reads said (balance_of (words_of line.now)) result }
-{
-    let (account, line) = next_account(line)?;
-    end(line)?;
-    Ok(Command::Balance(account))
-}
-
-// A command on a book, by its name and what follows it.
-fn on_book(name: &[u8], line: &[u8]) -> Result<Command, LineFault>
-    ensures { Reads said (on_book_of name.now (words_of line.now)) result }
-{
-    if is(name, "book") {
-        return book_command(line);
-    }
-    if is(name, "post") {
-        return post_command(line);
-    }
-    if is(name, "balance") {
-        return balance_command(line);
-    }
-    if is(name, "room") {
-        return alone(Command::Room, line);
-    }
-    if is(name, "journal") {
-        return alone(Command::Journal, line);
-    }
-    if is(name, "balances") {
-        return alone(Command::Balances, line);
-    }
-    Err(LineFault::UnknownCommand)
-}
-
-// A command by its name and what follows it.
+// The command of a name and what follows it.
 fn named_command(heap: Global, name: &[u8], line: &[u8]) -> Result<Command, Stop>
     ensures { ReadsOrWants said (takes_memory (name.now ∷ words_of line.now)) (command_of name.now (words_of line.now)) result }
 {
     if is(name, "spread") {
         return spread_command(heap, line);
     }
-    Ok(on_book(name, line)?)
+    Err(Stop::Fault(LineFault::UnknownCommand))
 }
 
 // What a line asks for. Only a list takes memory.

@@ -1,6 +1,6 @@
 // Reads a month file and prints an answer for each of its lines.
-use answers::file::run;
 use anyhow::anyhow;
+use monthfile::output::run;
 use std::io::{Read, Write};
 use std::{env, fs};
 
@@ -10,28 +10,21 @@ Reads a month file from FILE, or from standard input, and prints an answer for e
 its number, a colon, and
   ok ...                        what was worked out
   refused NUMBER LAYER: words   the rules refuse it
-  error: words                  the line is not understood, or comes in the wrong state
-The status is 0 if there is no error line, else 1.
+  error: words                  the line is not understood
+The status is 0 if every line is understood, refused ones too, else 1.
 
 One command a line; words are separated by spaces or tabs, and # starts a comment.
   spread TOTAL flat N           TOTAL over N equal weights
   spread TOTAL list W W ...     over these weights
   spread TOTAL line G A B       over the line from reading A to reading B, G hours between them
-  book journal N                make a book that keeps its postings, with room for N
-  book totals N                 make a book that keeps 16 sums, with room for N postings
-  post DEBIT CREDIT SIZE        post by hand, in thousandths of a cent
-  balance A                     the balance of account A
-  room                          how many postings the book still takes
-  journal                       the postings that the book keeps
-  balances                      all balances and their sum
 ";
 
 // Prints the answers to a month file.
 fn settle(rt: &HostRuntime, file: &[u8]) -> anyhow::Result<()> {
     let output = run(rt.alloc(), file)?;
     rt.stdout().write_all(output.text.as_bytes())?;
-    if output.faulty {
-        return Err(anyhow!("a line is at fault (see its error line)"));
+    if output.mistaken {
+        return Err(anyhow!("a line is not understood"));
     }
     Ok(())
 }

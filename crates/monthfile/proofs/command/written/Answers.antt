@@ -2,6 +2,7 @@ use Rattle.std.proofs.Common.{◌≡◌, ℕ, List, [], ◌∷◌, sym, ap, ◌�
 use Rattle.std.proofs.lemmas.Result.{IfOk-weaker}
 use Rattle.monthfile.specs.Lines.{lines_of}
 use Rattle.monthfile.specs.Meaning.{line_of}
+use Rattle.monthfile.proofs.Plain.{one_line}
 use Rattle.monthfile.proofs.Back.{back}
 use Rattle.monthfile.proofs.command.written.Goals as goal
 
@@ -11,6 +12,6 @@ returns c =
     let fit = c.«command-fits».ensures in
     record {
       text = search rules;
-      line = IfOk-weaker c.format.result _ _ (λ s h. subst (λ (bs : List ℕ). lines_of bs ≡ bs ∷ []) (sym h) (back asked fit).line) c.format.ensures.ok;
-      reads = IfOk-weaker c.format.result _ _ (λ s h. ap line_of h ∙ (back asked fit).reads) c.format.ensures.ok;
+      line = IfOk-weaker c.format.result _ _ (λ s h. subst (λ (bs : List ℕ). lines_of bs ≡ bs ∷ []) (sym h) (one_line asked fit)) c.format.ensures.ok;
+      reads = IfOk-weaker c.format.result _ _ (λ s h. ap line_of h ∙ back asked fit) c.format.ensures.ok;
     }

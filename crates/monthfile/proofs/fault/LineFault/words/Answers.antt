@@ -8,9 +8,6 @@ returns-in-UnknownCommand c = sym (ap fault_text c.in-UnknownCommand.is)
 pub returns-in-UnknownKey : goal.returns-in-UnknownKey
 returns-in-UnknownKey c = sym (ap fault_text c.in-UnknownKey.is)
 
-pub returns-in-UnknownBook : goal.returns-in-UnknownBook
-returns-in-UnknownBook c = sym (ap fault_text c.in-UnknownBook.is)
-
 pub returns-in-TooFewWords : goal.returns-in-TooFewWords
 returns-in-TooFewWords c = sym (ap fault_text c.in-TooFewWords.is)
 
