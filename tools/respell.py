@@ -243,6 +243,21 @@ widest-account widest_account
 word-glyphs word_glyphs
 word-then word_then
 words-or-none words_or_none
+line-next line_next
+line-opens line_opens
+two-writes two_writes
+digits-bad digits_bad
+digits-end digits_end
+read-over read_over
+read-end read_end
+text-next text_next
+text-more text_more
+text-all text_all
+heavy-found heavy_found
+heavy-more heavy_more
+heavy-none heavy_none
+next-is next_is
+advanced-is advanced_is
 """
 TABLE = dict(line.split() for line in NAMES.split("\n") if line)
 NAME = re.compile("(?<![\\w'-])(" + "|".join(sorted(map(re.escape, TABLE), key=len, reverse=True)) + ")(?![\\w'-])")

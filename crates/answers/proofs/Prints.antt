@@ -20,18 +20,18 @@ both_assoc a b c = λ i. record { text = append_assoc a.text b.text c.text i; fa
 
 -- line n is answered on the state d, and the lines ls follow it
 module _ (n : ℕ) (d : State) (line : List ℕ) (ls : List (List ℕ)) where
-  pub line-next : (before after row all : Printed) (e : State) → after ≡ both before row → row ≡ line_printed n d (line_of line) → e ≡ state_next d (line_of line)
+  pub line_next : (before after row all : Printed) (e : State) → after ≡ both before row → row ≡ line_printed n d (line_of line) → e ≡ state_next d (line_of line)
       → both before (lines_printed n d (line ∷ ls)) ≡ all → both after (lines_printed (n + 1) e ls) ≡ all
-  line-next before after row all e put is on h =
+  line_next before after row all e put is on h =
       ap (λ p. both p (lines_printed (n + 1) e ls)) (put ∙ ap (both before) is)
       ∙ ap (λ f. both (both before (line_printed n d (line_of line))) (lines_printed (n + 1) f ls)) on
       ∙ both_assoc before (line_printed n d (line_of line)) (lines_printed (n + 1) (state_next d (line_of line)) ls)
       ∙ h
 
   -- it asks for another book
-  pub line-opens : (k : BookKind) (room : ℕ) → line_of line ≡ asks (say_book k room)
+  pub line_opens : (k : BookKind) (room : ℕ) → line_of line ≡ asks (say_book k room)
       → both (row_printed n (opened (fresh room).room)) (lines_printed (n + 1) (Some (new_book k room)) ls) ≡ lines_printed n d (line ∷ ls)
-  line-opens k room e = sym (ap (λ m. both (line_printed n d m) (lines_printed (n + 1) (state_next d m) ls)) e)
+  line_opens k room e = sym (ap (λ m. both (line_printed n d m) (lines_printed (n + 1) (state_next d m) ls)) e)
 
 -- a book was made, its room is told, and the lines after it are answered on it
 pub opening_next : (o : Opening) (before after row : Printed) (b : BookView) → ◌≡◌ {A = State} (Some b) (Some (new_book o.kind o.room))

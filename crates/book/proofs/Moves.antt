@@ -39,10 +39,10 @@ module _ (p : Posting) (bs : List Money) where
   moved_at a h = get_or-map-range_with_len (λ a. money (balance bs a +ℤ change p a)) 0 (length bs) a a nothing h (omega arith)
 
   -- the two writes that a book makes
-  pub two-writes : (x y : ℤ) → p.debit < length bs → p.credit < length bs → p.debit ≢ p.credit
+  pub two_writes : (x y : ℤ) → p.debit < length bs → p.credit < length bs → p.debit ≢ p.credit
       → x ≡ balance bs p.debit -ℤ size → y ≡ balance bs p.credit +ℤ size
       → set (set bs p.debit (money x)) p.credit (money y) ≡ moved bs p
-  two-writes x y d c apart ex ey =
+  two_writes x y d c apart ex ey =
       let one = set bs p.debit (money x) in
       let two = set one p.credit (money y) in
       let long : length one ≡ length bs = length-set bs p.debit (money x) in

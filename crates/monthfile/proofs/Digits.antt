@@ -24,14 +24,14 @@ module _ (bs : List ℕ) (i : ℕ) where
   digits_step : i < length bs → all_ascii_digits (drop i bs) ≡ (is_ascii_digit (get_or bs i 0) && all_ascii_digits (drop (i + 1) bs))
   digits_step h = at_drop_more all_ascii_digits bs i 0 h
 
-  pub digits-bad : i < length bs → all_ascii_digits (drop i bs) ≡ all_ascii_digits bs → is_ascii_digit (get_or bs i 0) ≡ false → false ≡ numeral bs
-  digits-bad h inv d = sym (and_right (not (eqb (length bs) 0)) (all_ascii_digits bs) (sym inv ∙ digits_step h ∙ ap (λ t. t && all_ascii_digits (drop (i + 1) bs)) d))
+  pub digits_bad : i < length bs → all_ascii_digits (drop i bs) ≡ all_ascii_digits bs → is_ascii_digit (get_or bs i 0) ≡ false → false ≡ numeral bs
+  digits_bad h inv d = sym (and_right (not (eqb (length bs) 0)) (all_ascii_digits bs) (sym inv ∙ digits_step h ∙ ap (λ t. t && all_ascii_digits (drop (i + 1) bs)) d))
 
   pub digits_more : i < length bs → all_ascii_digits (drop i bs) ≡ all_ascii_digits bs → is_ascii_digit (get_or bs i 0) ≡ true → all_ascii_digits (drop (i + 1) bs) ≡ all_ascii_digits bs
   digits_more h inv d = sym (ap (λ t. t && all_ascii_digits (drop (i + 1) bs)) d) ∙ sym (digits_step h) ∙ inv
 
-  pub digits-end : length bs ≤ i → all_ascii_digits (drop i bs) ≡ all_ascii_digits bs → not (eqb (length bs) 0) ≡ numeral bs
-  digits-end h inv = and_yes (not (eqb (length bs) 0)) ∙ ap (λ t. not (eqb (length bs) 0) && t) (sym (at_drop_all all_ascii_digits bs i h) ∙ inv)
+  pub digits_end : length bs ≤ i → all_ascii_digits (drop i bs) ≡ all_ascii_digits bs → not (eqb (length bs) 0) ≡ numeral bs
+  digits_end h inv = and_yes (not (eqb (length bs) 0)) ∙ ap (λ t. not (eqb (length bs) 0) && t) (sym (at_drop_all all_ascii_digits bs i h) ∙ inv)
 
   pub digit_low : numeral bs ≡ true → i < length bs → 48 ≤ get_or bs i 0
   digit_low d h = (digit_at bs i (own.to bs (and_parts (not (eqb (length bs) 0)) (all_ascii_digits bs) d).1) h).0
@@ -46,13 +46,13 @@ module _ (bs : List ℕ) (i : ℕ) where
     pub read_more : i < length bs → read_on n (drop i bs) ≡ read_on 0 bs → read_on next (drop (i + 1) bs) ≡ read_on 0 bs
     read_more h inv = sym (read_step h) ∙ inv
 
-    pub read-over : numeral bs ≡ true → i < length bs → read_on n (drop i bs) ≡ read_on 0 bs → limit < next → Err DoesNotFit ≡ number_in limit bs
-    read-over d h inv over =
+    pub read_over : numeral bs ≡ true → i < length bs → read_on n (drop i bs) ≡ read_on 0 bs → limit < next → Err DoesNotFit ≡ number_in limit bs
+    read_over d h inv over =
         let all : limit < read_on 0 bs = omega (arith, grows next (drop (i + 1) bs), read_more h inv) in
         sym (ap (λ t. cond t (within limit (read_on 0 bs)) (Err NotANumber)) d ∙ ap (λ t. cond t (Ok (read_on 0 bs)) (Err DoesNotFit)) (lt-leb (read_on 0 bs) limit all))
 
-    pub read-end : numeral bs ≡ true → length bs ≤ i → n ≤ limit → read_on n (drop i bs) ≡ read_on 0 bs → Ok n ≡ number_in limit bs
-    read-end d h small inv =
+    pub read_end : numeral bs ≡ true → length bs ≤ i → n ≤ limit → read_on n (drop i bs) ≡ read_on 0 bs → Ok n ≡ number_in limit bs
+    read_end d h small inv =
         let e : n ≡ read_on 0 bs = sym (at_drop_all (read_on n) bs i h) ∙ inv in
         let fits : read_on 0 bs ≤ limit = omega (arith, e) in
         ap (λ (k : ℕ). Ok k) e ∙ sym (ap (λ t. cond t (within limit (read_on 0 bs)) (Err NotANumber)) d ∙ ap (λ t. cond t (Ok (read_on 0 bs)) (Err DoesNotFit)) (le-leb (read_on 0 bs) limit fits))

@@ -43,12 +43,12 @@ module _ (t : ℤ) (ws : List ℕ) (i : ℕ) (b : Bounded ws) where
   onward_is : onward ws (walked t ws i) ≡ upto ws (i + 1)
   onward_is = omega (arith, weight_read ws i b, upto_more ws i, upto_whole ws (i + 1))
 
-  pub next-is : next_part ws (walked t ws i) ≡ part t ws i
+  pub next_is : next_part ws (walked t ws i) ≡ part t ws i
   unfolding next_part part
-  next-is = rw onward_is
+  next_is = rw onward_is
 
-  pub advanced-is : advanced ws (walked t ws i) ≡ walked t ws (i + 1)
-  advanced-is =
+  pub advanced_is : advanced ws (walked t ws i) ≡ walked t ws (i + 1)
+  advanced_is =
       let e = onward_is in
       let p : min (min i most_places + 1) most_places ≡ min (i + 1) most_places = omega arith in
       cc

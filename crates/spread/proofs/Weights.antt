@@ -48,14 +48,14 @@ clipped_same ws few light = ap (map (λ w. min w weight_limit)) (take_all most_p
 
 -- a scan for a weight over its limit, at index i
 module _ (ws : List ℕ) (i : ℕ) (scan : heavy (drop i ws) ≡ heavy ws) where
-  pub heavy-found : i < length ws → weight_limit < get_or ws i 0 → heavy ws ≡ true
-  heavy-found h over = sym scan ∙ at_drop_more heavy ws i 0 h ∙ or_left (ltb weight_limit (get_or ws i 0)) (heavy (drop (i + 1) ws)) (lt-ltb weight_limit (get_or ws i 0) over)
+  pub heavy_found : i < length ws → weight_limit < get_or ws i 0 → heavy ws ≡ true
+  heavy_found h over = sym scan ∙ at_drop_more heavy ws i 0 h ∙ or_left (ltb weight_limit (get_or ws i 0)) (heavy (drop (i + 1) ws)) (lt-ltb weight_limit (get_or ws i 0) over)
 
-  pub heavy-more : i < length ws → get_or ws i 0 ≤ weight_limit → heavy (drop (i + 1) ws) ≡ heavy ws
-  heavy-more h small = sym (at_drop_more heavy ws i 0 h ∙ ap (λ t. t || heavy (drop (i + 1) ws)) (le-ltb weight_limit (get_or ws i 0) small)) ∙ scan
+  pub heavy_more : i < length ws → get_or ws i 0 ≤ weight_limit → heavy (drop (i + 1) ws) ≡ heavy ws
+  heavy_more h small = sym (at_drop_more heavy ws i 0 h ∙ ap (λ t. t || heavy (drop (i + 1) ws)) (le-ltb weight_limit (get_or ws i 0) small)) ∙ scan
 
-  pub heavy-none : length ws ≤ i → heavy ws ≡ false
-  heavy-none h = sym scan ∙ at_drop_all heavy ws i h
+  pub heavy_none : length ws ≤ i → heavy ws ≡ false
+  heavy_none h = sym scan ∙ at_drop_all heavy ws i h
 
 -- the line
 pub line_within : (g a b k : ℕ) → 1 ≤ k → k ≤ g → at_place (line g a b) k ≡ line_at g a b k

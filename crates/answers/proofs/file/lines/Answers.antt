@@ -8,7 +8,7 @@ use Rattle.answers.specs.States.{state_of}
 use Rattle.answers.specs.Output.{printed, both, lines_printed, line_printed, has_words, some_words}
 use Rattle.answers.specs.Turns.{Turned}
 use Rattle.answers.proofs.Memory.{words_or_none}
-use Rattle.answers.proofs.Prints.{line-next, line-opens}
+use Rattle.answers.proofs.Prints.{line_next, line_opens}
 use Rattle.answers.proofs.file.lines.Goals as goal
 
 pub loop-line-preserved : goal.loop-line-preserved
@@ -24,7 +24,7 @@ loop-line-preserved g c =
     let e = state c.answer-line.new.book in
     let out = printed c.loop-line.output in
     let turn = subst (λ (t : Turn). Turned n d (line_of line) e t) c.in-Answered.is said.turn in (
-      line-next n d line ls out (printed c.add.new.self) (printed c.in-Answered.row) _ e c.in-ok-add.ensures.prints turn.0 turn.1 (sym (ap (λ (x : List (List ℕ)). both out (lines_printed n d x)) cut) ∙ inv.0),
+      line_next n d line ls out (printed c.add.new.self) (printed c.in-Answered.row) _ e c.in-ok-add.ensures.prints turn.0 turn.1 (sym (ap (λ (x : List (List ℕ)). both out (lines_printed n d x)) cut) ∙ inv.0),
       omega (arith, c.in-Some.ensures.shorter, inv.1),
       omega (arith, c.in-Some.ensures.shorter, inv.2),
       said.even,
@@ -62,7 +62,7 @@ returns-in-Opens g c =
     let turn = subst (λ (t : Turn). Turned n d (line_of line) (state c.answer-line.new.book) t) c.in-Opens.is c.in-ok-row.ensures.turn in
     record {
       answered = record {
-        prints = ap (both out) (line-opens n d line ls c.in-Opens.kind c.in-Opens.room turn ∙ sym (ap (lines_printed n d) cut)) ∙ inv.0;
+        prints = ap (both out) (line_opens n d line ls c.in-Opens.kind c.in-Opens.room turn ∙ sym (ap (lines_printed n d) cut)) ∙ inv.0;
         ends = (
           record { within = omega (arith, c.in-Some.ensures.shorter, inv.1); shorter = omega (arith, c.in-Some.ensures.shorter, inv.2) },
           inv.4 (ap some_words cut ∙ or_left (has_words (line_of line)) (some_words ls) (ap has_words turn)),

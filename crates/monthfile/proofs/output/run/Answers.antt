@@ -9,8 +9,8 @@ use Rattle.monthfile.proofs.output.run.Goals as goal
 use Rattle.monthfile.proofs.output.run.Goals.{then-mistaken, else-mistaken}
 
 -- one line more is answered
-text-next : (text add line all : List ℕ) (n : ℕ) (ls : List (List ℕ)) → add ≡ line_text n line → text ++ lines_text n (line ∷ ls) ≡ all → (text ++ add) ++ lines_text (n + 1) ls ≡ all
-text-next text add line all n ls e h = ap (λ (a : List ℕ). (text ++ a) ++ lines_text (n + 1) ls) e ∙ append_assoc text (line_text n line) (lines_text (n + 1) ls) ∙ h
+text_next : (text add line all : List ℕ) (n : ℕ) (ls : List (List ℕ)) → add ≡ line_text n line → text ++ lines_text n (line ∷ ls) ≡ all → (text ++ add) ++ lines_text (n + 1) ls ≡ all
+text_next text add line all n ls e h = ap (λ (a : List ℕ). (text ++ a) ++ lines_text (n + 1) ls) e ∙ append_assoc text (line_text n line) (lines_text (n + 1) ls) ∙ h
 
 or_assoc : (a b c : Bool) → ((a || b) || c) ≡ (a || (b || c))
 or_assoc true b c = refl
@@ -29,7 +29,7 @@ loop-line-preserved c =
       | then-mistaken w ↦ w.mistaken-is ∙ w.if-mistaken.true ∙ sym (ap (λ b. b || mistaken_line line) w.if-mistaken.true)
       | else-mistaken w ↦ w.mistaken-is ∙ said.1 ∙ sym (ap (λ b. b || mistaken_line line) w.if-mistaken.false)
     ] in (
-      ap (λ (b : List ℕ). b ++ lines_text (n + 1) ls) bytes ∙ text-next (string_bytes c.loop-line.text) c.as-str.result.now line (output_of c.args.file.now) n ls (c.as-str.ensures.value ∙ said.0) (sym (ap (λ (x : List (List ℕ)). string_bytes c.loop-line.text ++ lines_text n x) cut) ∙ c.loop-line.invariant.0),
+      ap (λ (b : List ℕ). b ++ lines_text (n + 1) ls) bytes ∙ text_next (string_bytes c.loop-line.text) c.as-str.result.now line (output_of c.args.file.now) n ls (c.as-str.ensures.value ∙ said.0) (sym (ap (λ (x : List (List ℕ)). string_bytes c.loop-line.text ++ lines_text n x) cut) ∙ c.loop-line.invariant.0),
       ap (λ b. b || some_mistaken ls) m ∙ or_assoc c.loop-line.mistaken (mistaken_line line) (some_mistaken ls) ∙ sym (ap (λ x. c.loop-line.mistaken || some_mistaken x) cut) ∙ c.loop-line.invariant.1,
       omega (arith, c.in-Some.ensures.shorter, c.loop-line.invariant.2),
       λ h. c.loop-line.invariant.3 (ap some_words cut ∙ or_right (has_words (line_of line)) (some_words ls) h),

@@ -4,7 +4,7 @@ use Rattle.spread.specs.Shares.{running}
 use Rattle.spread.specs.Signs.{put}
 use Rattle.spread.specs.Walks.{walk_of, onward, next_part, advanced}
 use Rattle.spread.proofs.Running.{running_rises, running_within}
-use Rattle.spread.proofs.Prefixes.{next-is, advanced-is}
+use Rattle.spread.proofs.Prefixes.{next_is, advanced_is}
 use Rattle.spread.proofs.cursor.Cursor.next_part.Goals as goal
 
 pub overflow-sub-high : goal.overflow-sub-high
@@ -36,7 +36,7 @@ returns g c =
       part = gives;
       moved = moves;
       law = λ t i e. (
-        gives ∙ ap (next_part ws) e ∙ next-is t ws i b,
-        moves ∙ ap (advanced ws) e ∙ advanced-is t ws i b,
+        gives ∙ ap (next_part ws) e ∙ next_is t ws i b,
+        moves ∙ ap (advanced ws) e ∙ advanced_is t ws i b,
       );
     }
