@@ -1,4 +1,6 @@
 // What a book means, two books that are proved to mean it, and code that serves every book.
+#![tactic(auto)]
+
 pub mod balances;
 pub mod fault;
 pub mod journal;

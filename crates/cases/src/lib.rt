@@ -1,4 +1,6 @@
 // Cases of the whole product: figures, edges, and each refusal.
+#![tactic(auto)]
+
 #[cfg(test)]
 mod keys;
 #[cfg(test)]

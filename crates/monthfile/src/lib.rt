@@ -1,4 +1,6 @@
 // The month file: one command a line, read from bytes and written as text.
+#![tactic(auto)]
+
 pub mod answer;
 pub mod command;
 pub mod fault;

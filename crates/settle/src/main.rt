@@ -1,4 +1,6 @@
 // Reads a month file and prints an answer for each of its lines.
+#![tactic(auto)]
+
 use anyhow::anyhow;
 use monthfile::output::run;
 use std::io::{Read, Write};

@@ -1,4 +1,6 @@
 // Units, keys, and the spread of a signed total over a key.
+#![tactic(auto)]
+
 pub mod cursor;
 pub mod estimating;
 pub mod fault;

@@ -11,9 +11,9 @@ use crate::units::Kwh;
 
 // Writes the parts of a total over a key into a list as long as the key.
 pub fn spread<K: Key>(key: &K, total: Kwh, parts: &mut [Kwh]) -> Result<(), SpreadFault>
-    ensures answer { result ≡ answer_of (spread_fault total.0 (weights key.now) (length parts.old)) }
-    ensures parts { parts.new ≡ unless_fault (spread_fault total.0 (weights key.now) (length parts.old)) parts.old (share total.0 (weights key.now)) }
-    ensures law { is_ok result ≡ true → Lawful total.0 (weights key.now) parts.new }
+    ensures answer { result ≡ answer_of (spread_fault total.0 (K.weights key.now) (length parts.old)) }
+    ensures parts { parts.new ≡ unless_fault (spread_fault total.0 (K.weights key.now) (length parts.old)) parts.old (share total.0 (K.weights key.now)) }
+    ensures law { is_ok result ≡ true → Lawful total.0 (K.weights key.now) parts.new }
 {
     if parts.len() != key.len() {
         return Err(SpreadFault::Places);

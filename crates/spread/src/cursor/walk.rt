@@ -13,7 +13,7 @@ use crate::units::Kwh;
 
 // The sum of the weights of a key.
 fn weight_sum<K: Key>(key: &K) -> u64
-    ensures { result ≡ sum (weights key.now) }
+    ensures { result ≡ sum (K.weights key.now) }
 {
     let mut sum: u64 = 0;
     for i in 0..key.len() {
@@ -34,7 +34,7 @@ fn running_share(size: u64, whole: u64, prefix: u64) -> u64
 impl Cursor {
     // A cursor before the first place of a key.
     pub fn new<K: Key>(key: &K, total: Kwh) -> Result<Cursor, SpreadFault>
-        ensures { MadeUnless (size_fault (unsigned_abs total.0) (sum (weights key.now))) (λ c. walk_of c ≡ walked total.0 (weights key.now) 0) result }
+        ensures { MadeUnless (size_fault (unsigned_abs total.0) (sum (K.weights key.now))) (λ c. walk_of c ≡ walked total.0 (K.weights key.now) 0) result }
     {
         let size = total.size();
         let whole = weight_sum(key);
@@ -55,9 +55,9 @@ impl Cursor {
 
     // The part at the next place, and 0 past the last. A key that is not the one it began with cannot lead it past the whole.
     pub fn next_part<K: Key>(&mut self, key: &K) -> Kwh
-        ensures part { result.0 ≡ next_part (weights key.now) (walk_of self.old) }
-        ensures moved { walk_of self.new ≡ advanced (weights key.now) (walk_of self.old) }
-        ensures law { Follows (weights key.now) (walk_of self.old) result.0 (walk_of self.new) }
+        ensures part { result.0 ≡ next_part (K.weights key.now) (walk_of self.old) }
+        ensures moved { walk_of self.new ≡ advanced (K.weights key.now) (walk_of self.old) }
+        ensures law { Follows (K.weights key.now) (walk_of self.old) result.0 (walk_of self.new) }
     {
         let passed = self.passed;
         let weight = key.weight(self.place + 1);

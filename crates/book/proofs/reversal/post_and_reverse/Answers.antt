@@ -11,7 +11,7 @@ returns-in-Ok g c =
     let records = g.B.Book.records in
     let mid = c.post.new.self in
     let end = c.post-2.new.self in
-    let one = c.in-default.ensures in
+    let one = c.in_default.ensures in
     let two = c.in-Ok.ensures in
     let both = twice (means c.args.book.now) (means mid) c.args.posting c.reversed.result c.reversed.ensures one.answer one.book (means end) two.answer two.book in
     record {
@@ -26,7 +26,7 @@ returns-in-Err-post g c =
     let means = g.B.Book.means in
     let b = c.args.book.now in
     let mid = c.post.new.self in
-    let one = c.in-default.ensures in
+    let one = c.in_default.ensures in
     let denied = c.in-Err-post.ensures in
     let same : c.post-2.new.self ≡ mid = denied.unchanged refl in
     record {

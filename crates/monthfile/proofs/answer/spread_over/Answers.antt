@@ -18,11 +18,11 @@ returns-in-Err g c =
     let f = fault_size t ws (length ws) refl ∙ c.in-Err.ensures in
     record { law = tt; reply = sym (ap (λ o. reply_by o (share t ws)) f); memory = λ no. absurd (true≢false no) }
 
-pub returns-in-err-parts : goal.returns-in-err-parts
-returns-in-err-parts g c =
+pub returns-in_err-parts : goal.returns-in_err-parts
+returns-in_err-parts g c =
     let t = c.args.total.0 in
     let ws = g.K.Key.weights c.args.key.now in
-    let f = fault_size t ws (length ws) refl ∙ c.in-default.ensures.0 in
+    let f = fault_size t ws (length ws) refl ∙ c.in_default.ensures.0 in
     record {
       law = IfOk-from_err c.from-residual.result _ c.from-residual.ensures.0;
       reply = IfOk-from_err c.from-residual.result _ c.from-residual.ensures.0;
@@ -33,7 +33,7 @@ pub returns-in-Ok : goal.returns-in-Ok
 returns-in-Ok g c =
     let t = c.args.total.0 in
     let ws = g.K.Key.weights c.args.key.now in
-    let v = c.in-ok-parts.parts in
+    let v = c.in_ok-parts.parts in
     let n : length c.deref-mut.result.now ≡ length ws = search rules in
     let m : length c.spread.new.parts ≡ v.len = search rules in
     let said = c.in-Ok.ensures in

@@ -2,8 +2,8 @@ use Rattle.std.proofs.Common.{rules}
 use Rattle.monthfile.proofs.Digits.{digit_low, read_more, read_over, read_end}
 use Rattle.monthfile.proofs.number.number.Goals as goal
 
-pub overflow-sub-next : goal.overflow-sub-next
-overflow-sub-next c = search (rules, digit_low)
+pub overflow_sub-next : goal.overflow_sub-next
+overflow_sub-next c = search (rules, digit_low)
 
 pub returns-then-next-limit : goal.returns-then-next-limit
 returns-then-next-limit c = search (rules, read_over)

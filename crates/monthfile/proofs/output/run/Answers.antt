@@ -22,8 +22,8 @@ loop-line-preserved c =
     let line = c.in-Some.line.now in
     let ls = lines_of c.in-Some.after.now in
     let cut = c.in-Some.ensures.lines in
-    let said = c.in-ok-answered.ensures.text in
-    let bytes = c.in-ok-push-str.ensures.bytes in
+    let said = c.in_ok-answered.ensures.text in
+    let bytes = c.in_ok-push-str.ensures.bytes in
     let m : c.if-mistaken.mistaken ≡ (c.loop-line.mistaken || mistaken_line line) =
     elim c.if-mistaken.branch [
       | then-mistaken w ↦ w.mistaken-is ∙ w.if-mistaken.true ∙ sym (ap (λ b. b || mistaken_line line) w.if-mistaken.true)
@@ -35,21 +35,21 @@ loop-line-preserved c =
       λ h. c.loop-line.invariant.3 (ap some_words cut ∙ or_right (has_words (line_of line)) (some_words ls) h),
     )
 
-pub returns-in-err-answered : goal.returns-in-err-answered
-returns-in-err-answered c =
+pub returns-in_err-answered : goal.returns-in_err-answered
+returns-in_err-answered c =
     let cut = c.in-Some.ensures.lines in
-    let words = c.in-err-answered.ensures.memory refl in
+    let words = c.in_err-answered.ensures.memory refl in
     record {
       text = IfOk-from_err c.from-residual.result _ c.from-residual.ensures.0;
       memory = λ _. c.loop-line.invariant.3 (ap some_words cut ∙ or_left (has_words (line_of c.in-Some.line.now)) (some_words (lines_of c.in-Some.after.now)) words);
     }
 
-pub returns-in-err-push-str : goal.returns-in-err-push-str
-returns-in-err-push-str c =
+pub returns-in_err-push-str : goal.returns-in_err-push-str
+returns-in_err-push-str c =
     let line = c.in-Some.line.now in
     let cut = c.in-Some.ensures.lines in
-    let said = c.in-ok-answered.ensures.text in
-    let tight = c.in-err-push-str.ensures.full in
+    let said = c.in_ok-answered.ensures.text in
+    let tight = c.in_err-push-str.ensures.full in
     let room = c.loop-line.text.bytes.ok in
     let words : has_words (line_of line) ≡ true =
     ⊎_elim
@@ -58,6 +58,6 @@ returns-in-err-push-str c =
     let z : ⊥ = omega (arith, ap length (c.as-str.ensures.value ∙ said.0 ∙ none)) in absurd z)
     (words_or_none (c.loop-line.number + 1) (line_of line)) in
     record {
-      text = IfOk-from_err c.from-residual-in-err-push-str.result _ c.from-residual-in-err-push-str.ensures.0;
+      text = IfOk-from_err c.from-residual-in_err-push-str.result _ c.from-residual-in_err-push-str.ensures.0;
       memory = λ _. c.loop-line.invariant.3 (ap some_words cut ∙ or_left (has_words (line_of line)) (some_words (lines_of c.in-Some.after.now)) words);
     }

@@ -1,8 +1,8 @@
 use Rattle.book.proofs.Moves.{kept_sound}
 use Rattle.book.proofs.totals.TotalsBook.post.Goals as goal
 
-pub invariant-of-self : goal.invariant-of-self
-invariant-of-self c =
+pub invariant_of-self : goal.invariant_of-self
+invariant_of-self c =
     let t = c.args.self.now in
-    let kept = kept_sound t.sums c.shift.new.sums t.left c.args.posting (record { sixteen = t.sixteen; roomy = t.roomy; small = t.small }) c.in-ok-admit.ensures c.shift.ensures in
+    let kept = kept_sound t.sums c.shift.new.sums t.left c.args.posting (record { sixteen = t.sixteen; roomy = t.roomy; small = t.small }) c.in_ok-admit.ensures c.shift.ensures in
     (kept.sixteen, (kept.roomy, (kept.small, tt)))

@@ -7,8 +7,8 @@ use Rattle.spread.proofs.Running.{running_rises, running_within}
 use Rattle.spread.proofs.Prefixes.{next_is, advanced_is}
 use Rattle.spread.proofs.cursor.Cursor.next_part.Goals as goal
 
-pub overflow-sub-high : goal.overflow-sub-high
-overflow-sub-high g c =
+pub overflow_sub-high : goal.overflow_sub-high
+overflow_sub-high g c =
     let self = c.args.self.now in
     let ahead : self.passed ≤ c.min-onward.result = omega (arith, self.within) in
     omega (arith, running_rises self.size self.whole self.passed c.min-onward.result ahead)
@@ -29,7 +29,7 @@ returns g c =
     let on : c.min-onward.result ≡ onward ws (walk_of self) = omega (arith, c.weight-weight.ensures) in
     let at : c.min-self.result ≡ min (self.place + 1) most_places = c.min-self.ensures in
     let gives : c.put.result.0 ≡ next_part ws (walk_of self) =
-    c.put.ensures ∙ rw (c.running-share-high.ensures, c.running-share-low.ensures) (ap (λ p. put self.sign (running self.size self.whole p - running self.size self.whole self.passed)) on) in
+    c.put.ensures ∙ rw (c.running_share-high.ensures, c.running_share-low.ensures) (ap (λ p. put self.sign (running self.size self.whole p - running self.size self.whole self.passed)) on) in
     let moves : record { size = self.size; sign = self.sign; whole = self.whole; passed = c.min-onward.result; place = c.min-self.result } ≡ advanced ws (walk_of self) =
     λ j. record { size = self.size; sign = self.sign; whole = self.whole; passed = on j; place = at j } in
     record {

@@ -7,8 +7,8 @@ use Rattle.spread.proofs.cursor.walk.weight_sum.Goals as goal
 next : (g : Over) (c : goal.After-weight-sum g) → c.loop-i.sum + c.weight-sum.result ≡ upto (g.K.Key.weights c.args.key.now) (c.loop-i.i + 1)
 next g c = omega (arith, c.loop-i.invariant, c.weight-sum.ensures, upto_more (g.K.Key.weights c.args.key.now) c.loop-i.i)
 
-pub overflow-add-sum : goal.overflow-add-sum
-overflow-add-sum g c =
+pub overflow_add-sum : goal.overflow_add-sum
+overflow_add-sum g c =
     let ws = g.K.Key.weights c.args.key.now in
     let n = next g c in
     let u = upto_whole ws (c.loop-i.i + 1) in

@@ -9,8 +9,8 @@ returns-then-place-eq0 c = let k = c.args.self.now in
     sym (line_outside k.gap k.before.0 k.after.0 c.args.place
     (elim c.then-place-eq0.branch [ then-place-eq0-via-then-place-eq0 w ↦ inl (omega arith) | then-place-eq0-via-else-place-eq0+then-place-self w ↦ inr (omega arith) ]))
 
-pub overflow-add-result-2 : goal.overflow-add-result-2
-overflow-add-result-2 c = let k = c.args.self.now in
+pub overflow_add-result-2 : goal.overflow_add-result-2
+overflow_add-result-2 c = let k = c.args.self.now in
     let h = line_small k.gap k.before.0 k.after.0 c.args.place k.short k.low k.high (omega arith) in search rules
 
 pub returns : goal.returns

@@ -10,8 +10,8 @@ returns-then-place-eq0 c =
     sym (place_outside (clipped c.args.self.now.list.now) c.args.place
     (elim c.then-place-eq0.branch [ then-place-eq0-via-then-place-eq0 w ↦ inl (omega arith) | then-place-eq0-via-else-place-eq0+then-place-len w ↦ inr (omega (arith, w.len.ensures, w.if-place-len.true)) ]))
 
-pub offset-bounds-self-place : goal.offset-bounds-self-place
-offset-bounds-self-place c = let n = clipped-length c.args.self.now.list.now in search rules
+pub offset_bounds-self-place : goal.offset_bounds-self-place
+offset_bounds-self-place c = let n = clipped-length c.args.self.now.list.now in search rules
 
 pub bounds-self-place : goal.bounds-self-place
 bounds-self-place c = let n = clipped-length c.args.self.now.list.now in omega arith

@@ -6,5 +6,5 @@ use Rattle.spread.proofs.units.Kwh.size.Goals as goal
 pub returns : goal.returns
 returns c =
     let z = c.args.self.0 in
-    let v : c.unsigned-abs.result ≡ nat_abs z = search rules in
+    let v : c.unsigned_abs.result ≡ nat_abs z = search rules in
     record { value = v; back = ap (put (sign_of z)) v ∙ put_size z }

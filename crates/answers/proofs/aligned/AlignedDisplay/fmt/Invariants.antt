@@ -1,7 +1,0 @@
-use Rattle.std.proofs.Common.{replicate}
-use Rattle.std.specs.Fmt.{IsPlainFormatter, HasWritten}
-use Rattle.answers.specs.Tables.{space}
-use Rattle.answers.proofs.aligned.AlignedDisplay.fmt.Given as goal
-
-abbrev pub invariant-loop : goal.invariant-loop
-invariant-loop g l = IsPlainFormatter l.initial.f → HasWritten g.W.Write.write_str_gives l.initial.f (replicate l.counter space) l.f

@@ -1,8 +1,0 @@
-use Rattle.std.proofs.Common.{take}
-use Rattle.std.specs.List.{flat_map}
-use Rattle.std.specs.Fmt.{IsPlainFormatter, HasWritten}
-use Rattle.answers.specs.Tables.{part_text}
-use Rattle.answers.proofs.tables.PartsDisplay.fmt.Given as goal
-
-abbrev pub invariant-loop-part : goal.invariant-loop-part
-invariant-loop-part g l = IsPlainFormatter l.initial.f → HasWritten g.W.Write.write_str_gives l.initial.f (flat_map part_text (take l.part-index l.self.0.now)) l.f
