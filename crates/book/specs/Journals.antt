@@ -1,6 +1,6 @@
 -- What a journal leaves in the list that it was lent. Assumes nothing.
 use Rattle.std.specs.Prelude.{◌≡◌, ℕ, ◌+◌, ◌<◌, min, List, length, take, pos, slice_set}
-use Rattle.std.specs.Borrow.{Bor, MutBor}
+use Rattle.std.specs.Borrow.{MutBor}
 use Rattle.spread.specs.Units.{kwh}
 use Rattle.book.specs.declared.posting.Posting.{Posting}
 use Rattle.book.specs.declared.posting.Note.{Note}
@@ -16,7 +16,7 @@ abbrev pub no_note : Note
 no_note = record { meter = 0; first = 0; last = 0; before = kwh (pos 0); after = kwh (pos 0) }
 
 -- the entries of a journal: the n places of its list that it has written
-abbrev pub entries_of : Bor (List Entry) → ℕ → List Entry
+abbrev pub entries_of : MutBor (List Entry) → ℕ → List Entry
 entries_of list n = take n list.now
 
 -- a journal begins on the list that it is lent, as it is, and has written no place

@@ -7,7 +7,7 @@ use spread::units::Money;
 
 // The balances in the order of the accounts.
 pub fn balances<B: Book>(book: &B) -> [Money; ACCOUNTS]
-    ensures { result ≡ (means book.now).balances }
+    ensures { result ≡ (B.means book.now).balances }
 {
     let mut all = [Money(0); ACCOUNTS];
     for account in 0..ACCOUNTS {

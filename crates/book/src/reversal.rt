@@ -19,10 +19,10 @@ pub enum Reversal {
 
 // Posts, and then posts the reverse: where both are taken every balance is as it was.
 pub fn post_and_reverse<B: Book>(book: &mut B, posting: Posting, note: Note) -> Reversal
-    ensures answer { result ≡ reversal (means book.old) posting }
-    ensures book { means book.new ≡ sheet_after result (means book.old) posting }
-    ensures law { Restores result (means book.old) (means book.new) }
-    ensures records { Leaves records result book.old posting note book.new }
+    ensures answer { result ≡ reversal (B.means book.old) posting }
+    ensures book { B.means book.new ≡ sheet_after result (B.means book.old) posting }
+    ensures law { Restores result (B.means book.old) (B.means book.new) }
+    ensures records { Leaves B.records result book.old posting note book.new }
 {
     if let Err(fault) = book.post(posting, note) {
         return Reversal::Denied(fault);

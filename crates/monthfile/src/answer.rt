@@ -70,9 +70,9 @@ impl fmt::Display for Answer {
 
 // The parts of a total over a key. What is refused takes no memory.
 fn spread_over<K: Key>(heap: Global, key: &K, total: Kwh) -> Result<Answer, AllocError>
-    ensures law { IfOk result (λ a. KeepsLaws total.0 (weights key.now) (tells a)) }
-    ensures reply { IfOk result (λ a. tells a ≡ spread_reply total.0 (weights key.now)) }
-    ensures memory { is_ok result ≡ false → is_parts (spread_reply total.0 (weights key.now)) ≡ true }
+    ensures law { IfOk result (λ a. KeepsLaws total.0 (K.weights key.now) (tells a)) }
+    ensures reply { IfOk result (λ a. tells a ≡ spread_reply total.0 (K.weights key.now)) }
+    ensures memory { is_ok result ≡ false → is_parts (spread_reply total.0 (K.weights key.now)) ≡ true }
 {
     if let Err(fault) = Cursor::new(key, total) {
         return Ok(Answer::Refused(fault));

@@ -49,7 +49,7 @@ impl ByteTest for Other {
 
 // How many bytes in front pass a test.
 pub fn front<T: ByteTest>(test: &T, text: &[u8]) -> usize
-    ensures value { result ≡ prefix_len (passing test.now) text.now }
+    ensures value { result ≡ prefix_len (T.passing test.now) text.now }
     ensures bound { result ≤ length text.now }
 {
     let mut n = 0;

@@ -24,8 +24,8 @@ returns-in_err-parts g c =
     let ws = g.K.Key.weights c.args.key.now in
     let f = fault_size t ws (length ws) refl ∙ c.in_default.ensures.0 in
     record {
-      law = IfOk-from_err c.from-residual.result _ c.from-residual.ensures.0;
-      reply = IfOk-from_err c.from-residual.result _ c.from-residual.ensures.0;
+      law = IfOk-from_err c.from_residual.result _ c.from_residual.ensures.0;
+      reply = IfOk-from_err c.from_residual.result _ c.from_residual.ensures.0;
       memory = λ _. ap (λ o. is_parts (reply_by o (share t ws))) f;
     }
 
@@ -34,13 +34,13 @@ returns-in-Ok g c =
     let t = c.args.total.0 in
     let ws = g.K.Key.weights c.args.key.now in
     let v = c.in_ok-parts.parts in
-    let n : length c.deref-mut.result.now ≡ length ws = search rules in
+    let n : length c.deref_mut.result.now ≡ length ws = search rules in
     let m : length c.spread.new.parts ≡ v.len = search rules in
     let said = c.in-Ok.ensures in
-    let e = passed (spread_fault t ws (length c.deref-mut.result.now)) said.answer in
+    let e = passed (spread_fault t ws (length c.deref_mut.result.now)) said.answer in
     let f : spread_fault t ws (length ws) ≡ None = ap (spread_fault t ws) (sym n) ∙ e in
     let held = with_items_is v c.spread.new.parts m in
-    let is : c.spread.new.parts ≡ share t ws = said.parts ∙ ap (λ o. unless_fault o c.deref-mut.result.now (share t ws)) e in
+    let is : c.spread.new.parts ≡ share t ws = said.parts ∙ ap (λ o. unless_fault o c.deref_mut.result.now (share t ws)) e in
     record {
       law = subst (λ (es : List Kwh). Lawful t ws es) (sym held) (said.law refl);
       reply = ap parts (held ∙ is) ∙ sym (ap (λ o. reply_by o (share t ws)) f);

@@ -9,7 +9,7 @@ use Rattle.monthfile.proofs.command.written.Goals as goal
 pub returns : goal.returns
 returns c =
     let asked = c.args.command.now in
-    let fit = c.«command-fits».ensures in
+    let fit = c.«command_fits».ensures in
     record {
       text = search rules;
       line = IfOk-weaker c.format.result _ _ (λ s h. subst (λ (bs : List ℕ). lines_of bs ≡ bs ∷ []) (sym h) (one_line asked fit)) c.format.ensures.ok;

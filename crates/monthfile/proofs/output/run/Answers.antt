@@ -23,13 +23,13 @@ loop-line-preserved c =
     let ls = lines_of c.in-Some.after.now in
     let cut = c.in-Some.ensures.lines in
     let said = c.in_ok-answered.ensures.text in
-    let bytes = c.in_ok-push-str.ensures.bytes in
+    let bytes = c.in_ok-push_str.ensures.bytes in
     let m : c.if-mistaken.mistaken ≡ (c.loop-line.mistaken || mistaken_line line) =
     elim c.if-mistaken.branch [
       | then-mistaken w ↦ w.mistaken-is ∙ w.if-mistaken.true ∙ sym (ap (λ b. b || mistaken_line line) w.if-mistaken.true)
       | else-mistaken w ↦ w.mistaken-is ∙ said.1 ∙ sym (ap (λ b. b || mistaken_line line) w.if-mistaken.false)
     ] in (
-      ap (λ (b : List ℕ). b ++ lines_text (n + 1) ls) bytes ∙ text_next (string_bytes c.loop-line.text) c.as-str.result.now line (output_of c.args.file.now) n ls (c.as-str.ensures.value ∙ said.0) (sym (ap (λ (x : List (List ℕ)). string_bytes c.loop-line.text ++ lines_text n x) cut) ∙ c.loop-line.invariant.0),
+      ap (λ (b : List ℕ). b ++ lines_text (n + 1) ls) bytes ∙ text_next (string_bytes c.loop-line.text) c.as_str.result.now line (output_of c.args.file.now) n ls (c.as_str.ensures.value ∙ said.0) (sym (ap (λ (x : List (List ℕ)). string_bytes c.loop-line.text ++ lines_text n x) cut) ∙ c.loop-line.invariant.0),
       ap (λ b. b || some_mistaken ls) m ∙ or_assoc c.loop-line.mistaken (mistaken_line line) (some_mistaken ls) ∙ sym (ap (λ x. c.loop-line.mistaken || some_mistaken x) cut) ∙ c.loop-line.invariant.1,
       omega (arith, c.in-Some.ensures.shorter, c.loop-line.invariant.2),
       λ h. c.loop-line.invariant.3 (ap some_words cut ∙ or_right (has_words (line_of line)) (some_words ls) h),
@@ -40,24 +40,24 @@ returns-in_err-answered c =
     let cut = c.in-Some.ensures.lines in
     let words = c.in_err-answered.ensures.memory refl in
     record {
-      text = IfOk-from_err c.from-residual.result _ c.from-residual.ensures.0;
+      text = IfOk-from_err c.from_residual.result _ c.from_residual.ensures.0;
       memory = λ _. c.loop-line.invariant.3 (ap some_words cut ∙ or_left (has_words (line_of c.in-Some.line.now)) (some_words (lines_of c.in-Some.after.now)) words);
     }
 
-pub returns-in_err-push-str : goal.returns-in_err-push-str
-returns-in_err-push-str c =
+pub returns-in_err-push_str : goal.returns-in_err-push_str
+returns-in_err-push_str c =
     let line = c.in-Some.line.now in
     let cut = c.in-Some.ensures.lines in
     let said = c.in_ok-answered.ensures.text in
-    let tight = c.in_err-push-str.ensures.full in
+    let tight = c.in_err-push_str.ensures.full in
     let room = c.loop-line.text.bytes.ok in
     let words : has_words (line_of line) ≡ true =
     ⊎_elim
     (λ (h : has_words (line_of line) ≡ true). h)
     (λ (none : line_text (c.loop-line.number + 1) line ≡ []).
-    let z : ⊥ = omega (arith, ap length (c.as-str.ensures.value ∙ said.0 ∙ none)) in absurd z)
+    let z : ⊥ = omega (arith, ap length (c.as_str.ensures.value ∙ said.0 ∙ none)) in absurd z)
     (words_or_none (c.loop-line.number + 1) (line_of line)) in
     record {
-      text = IfOk-from_err c.from-residual-in_err-push-str.result _ c.from-residual-in_err-push-str.ensures.0;
+      text = IfOk-from_err c.from_residual-in_err-push_str.result _ c.from_residual-in_err-push_str.ensures.0;
       memory = λ _. c.loop-line.invariant.3 (ap some_words cut ∙ or_left (has_words (line_of line)) (some_words (lines_of c.in-Some.after.now)) words);
     }

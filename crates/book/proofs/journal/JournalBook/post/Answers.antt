@@ -13,4 +13,4 @@ invariant_of-self c =
     let said = c.in_ok-admit.ensures in
     let some = (admitted (sheet j.sums j.left) p (passed (denial (sheet j.sums j.left) p) said)).room in
     let kept = kept_sound j.sums c.shift.new.sums j.left p (record { sixteen = j.sixteen; roomy = j.roomy; small = j.small }) said c.shift.ensures in
-    (kept.sixteen, (kept.roomy, (kept.small, (simp length-set (omega (arith, some, j.tied)), tt))))
+    record { sixteen = kept.sixteen; roomy = kept.roomy; small = kept.small; tied = simp length-set (omega (arith, some, j.tied)) }

@@ -5,4 +5,4 @@ pub invariant_of-self : goal.invariant_of-self
 invariant_of-self c =
     let t = c.args.self.now in
     let kept = kept_sound t.sums c.shift.new.sums t.left c.args.posting (record { sixteen = t.sixteen; roomy = t.roomy; small = t.small }) c.in_ok-admit.ensures c.shift.ensures in
-    (kept.sixteen, (kept.roomy, (kept.small, tt)))
+    record { sixteen = kept.sixteen; roomy = kept.roomy; small = kept.small }
