@@ -139,7 +139,7 @@ fn journal_in_order(rt: HostRuntime) {
         post_and_reverse(&mut book, one.posting, note),
         Reversal::Reversed
     );
-    assert_eq!(rt; book.entries(), &[one, two]);
+    assert_eq!(rt; book.entries(), [one, two].as_slice());
     assert_eq!(rt; book.post(posting(5, 5, 1), note), Err(BookFault::Accounts));
     assert_eq!(rt; book.room(), 2);
     assert_eq!(rt; balances(&book), [Money(0); 16]);

@@ -2,7 +2,11 @@
 #![tactic(auto)]
 
 #[cfg(test)]
+mod books;
+#[cfg(test)]
 mod keys;
+#[cfg(test)]
+mod lent;
 #[cfg(test)]
 mod month_files;
 #[cfg(test)]

@@ -38,7 +38,9 @@ fn all_answered(
     mistaken: bool,
 ) -> Result<(), Fail> {
     for file in files {
-        answered(rt, heap, file.as_bytes(), text, mistaken).note(*file)?;
+        let output = run(heap, file.as_bytes())?;
+        assert_eq!(rt; output.text.as_str(), text, "{file}");
+        assert_eq!(rt; output.mistaken, mistaken, "{file}");
     }
     Ok(())
 }
