@@ -4,7 +4,7 @@
 usage: python3 tools/respell.py     at the top of the repository, once, after the toolchain's own script for older repositories
 
 Only .rt and .antt files in crates/ are changed, and in them neither texts in quotes nor comments. A dash stays in the
-name of a lemma where it joins two names (`share-length`).
+name of a lemma where it joins two names (`share-length`). The library's All by recursion goes by its own name.
 """
 import os
 import re
@@ -258,13 +258,30 @@ heavy-more heavy_more
 heavy-none heavy_none
 next-is next_is
 advanced-is advanced_is
+flatKey flat_key
+numbersKey numbers_key
+lastWeekKey last_week_key
+totalsBook totals_book
+journalBook journal_book
 """
 TABLE = dict(line.split() for line in NAMES.split("\n") if line)
 NAME = re.compile("(?<![\\w'-])(" + "|".join(sorted(map(re.escape, TABLE), key=len, reverse=True)) + ")(?![\\w'-])")
 PIECE = re.compile(r'"(?:[^"\\]|\\.)*"|//[^\n]*|(?<![^\s])--[^\n]*')
 
 
+ALIAS = "AllByRecursion as All"
+ALL = re.compile(r"(?<![\w'-])All(?![\w'-])")
+
+
+def unaliased(text):
+    if ALIAS not in text:
+        return text
+    lines = text.replace(ALIAS, "AllByRecursion").split("\n")
+    return "\n".join(l if l.startswith(("use ", "ghost use ")) else ALL.sub("AllByRecursion", l) for l in lines)
+
+
 def respelled(text):
+    text = unaliased(text)
     out, at = [], 0
     for kept in PIECE.finditer(text):
         out.append(NAME.sub(lambda m: TABLE[m.group(1)], text[at:kept.start()]))

@@ -2,8 +2,8 @@
 ghost use Rattle.std.specs.Prelude.{◌≡◌, length};
 ghost use Rattle.book.specs.Sheets.{fresh};
 ghost use Rattle.book.specs.Journals.{Begun, entries_of};
-ghost use Rattle.book.specs.contracts.totals.TotalsBook.TheImpl.{ghosts as totalsBook};
-ghost use Rattle.book.specs.contracts.journal.JournalBook.TheImpl.{ghosts as journalBook};
+ghost use Rattle.book.specs.contracts.totals.TotalsBook.TheImpl.{ghosts as totals_book};
+ghost use Rattle.book.specs.contracts.journal.JournalBook.TheImpl.{ghosts as journal_book};
 
 use crate::journal::Journal;
 use crate::limits::{ACCOUNTS, ROOM_LIMIT};
@@ -14,7 +14,7 @@ use spread::units::Money;
 impl Totals {
     // A room over the limit counts as the limit.
     pub fn new(room: usize) -> Totals
-        ensures book { totalsBook.means result ≡ fresh room }
+        ensures book { totals_book.means result ≡ fresh room }
     {
         Totals {
             sums: [Money(0); ACCOUNTS],
@@ -26,7 +26,7 @@ impl Totals {
 impl<'a> Journal<'a> {
     // The room is the length of the list; of a longer list than the limit, the places beyond are never written.
     pub fn new(list: &'a mut [Entry]) -> Journal<'a>
-        ensures book { journalBook.means result ≡ fresh (length list.old) }
+        ensures book { journal_book.means result ≡ fresh (length list.old) }
         ensures list { Begun list.entry result.list result.next }
     {
         let left = list.len().min(ROOM_LIMIT);

@@ -1,7 +1,7 @@
 -- What is written of a command is read as that command. Assumes nothing.
 use Rattle.std.proofs.Common.{◌≡◌, ℕ, suc, ◌+◌, ◌<◌, ◌≤◌, Bool, true, false, cond, not, ◌&&◌, eqb, List, [], ◌∷◌, ◌++◌, map, length, get_or, take, drop, ℤ, pos, negsuc, neg_ℤ, Ok, Err, vec_items, codes, decimal, sym, refl, ap, ◌∙◌, append_assoc, append-nil, arith}
 use lib.Seq.{take-append_seam, drop-append_seam}
-use Rattle.std.specs.List.{flat_map, prefix_len, AllByRecursion as All}
+use Rattle.std.specs.List.{flat_map, prefix_len, AllByRecursion}
 use Rattle.std.specs.Char.{is_ascii_digit}
 use Rattle.std.specs.Fmt.{signed_decimal}
 use Rattle.std.specs.Str.{all_ascii_digits}
@@ -38,7 +38,7 @@ number_back limit n h small =
 took_back : (n : ℕ) (ws : List (List ℕ)) → FitsU64 n → took widest (decimal n ∷ ws) ≡ Ok (n, ws)
 took_back n ws small = ap (λ r. and_then r (λ k. Ok (k, ws))) (number_back widest n (omega arith) small)
 
-numbers_back : (ns ws : List ℕ) → All FitsU64 ws → numbers_on ns (map decimal ws) ≡ Ok (ns ++ ws)
+numbers_back : (ns ws : List ℕ) → AllByRecursion FitsU64 ws → numbers_on ns (map decimal ws) ≡ Ok (ns ++ ws)
 numbers_back ns [] fit = ap (λ (l : List ℕ). Ok l) (sym (append-nil ns))
 numbers_back ns (w ∷ ws) fit =
     ap (λ r. and_then r (λ n. numbers_on (ns ++ n ∷ []) (map decimal ws))) (number_back widest w (omega (arith, fit.0)) fit.0)
@@ -97,7 +97,7 @@ starts_blank : (ws : List ℕ) → prefix_len ink (flat_map weight_text ws) ≡ 
 starts_blank [] = refl
 starts_blank (w ∷ ws) = refl
 
-weights_words : (ws : List ℕ) → All FitsU64 ws → words_of (flat_map weight_text ws) ≡ map decimal ws
+weights_words : (ws : List ℕ) → AllByRecursion FitsU64 ws → words_of (flat_map weight_text ws) ≡ map decimal ws
 weights_words [] fit = refl
 weights_words (w ∷ ws) fit = decimal_then w (flat_map weight_text ws) fit.0 (starts_blank ws) ∙ ap (λ (l : List (List ℕ)). decimal w ∷ l) (weights_words ws fit.1)
 

@@ -1,6 +1,6 @@
 -- What is written of a command is plain: small letters, digits, minus signs and spaces. Assumes nothing.
 use Rattle.std.proofs.Common.{◌≡◌, ℕ, suc, Bool, true, false, cond, ◌&&◌, ◌||◌, eqb, leb, List, [], ◌∷◌, ◌++◌, ℤ, pos, negsuc, vec_items, decimal, refl, ap, ◌∙◌, arith}
-use Rattle.std.specs.List.{flat_map, AllByRecursion as All}
+use Rattle.std.specs.List.{flat_map, AllByRecursion}
 use Rattle.std.specs.Char.{is_ascii_digit}
 use Rattle.std.specs.Fmt.{signed_decimal}
 use Rattle.std.specs.Str.{all_ascii_digits}
@@ -43,7 +43,7 @@ plain-signed : (z : ℤ) → FitsI64 z → plain_text (signed_decimal z) ≡ tru
 plain-signed (pos n) h = plain-decimal n (omega arith)
 plain-signed (negsuc n) h = plain-decimal (suc n) (omega arith)
 
-plain_list : (ws : List ℕ) → All FitsU64 ws → plain_text (flat_map weight_text ws) ≡ true
+plain_list : (ws : List ℕ) → AllByRecursion FitsU64 ws → plain_text (flat_map weight_text ws) ≡ true
 plain_list [] fit = refl
 plain_list (w ∷ ws) fit = plain-append (decimal w) (flat_map weight_text ws) (plain-decimal w fit.0) (plain_list ws fit.1)
 

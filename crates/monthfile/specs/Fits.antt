@@ -1,7 +1,7 @@
 -- What the types of a command's numbers say of them. Assumes nothing.
 use Rattle.std.specs.Prelude.{ℕ, ◌^◌, ◌<◌, ℤ, vec_items}
 use Rattle.std.specs.Int.Signed.{mag}
-use Rattle.std.specs.List.{AllByRecursion as All}
+use Rattle.std.specs.List.{AllByRecursion}
 use Rattle.monthfile.specs.declared.command.Command.{Command}
 use Rattle.monthfile.specs.declared.command.Command.TheVariants.{Spread}
 use Rattle.monthfile.specs.declared.command.Weights.{Weights}
@@ -18,7 +18,7 @@ FitsI64 z = mag z < 2 ^ 63
 -- each number of the weights fits
 abbrev pub WeightsFit : Weights → Type 0
 WeightsFit (Flat n) = FitsU64 n
-WeightsFit (Listed ws) = All FitsU64 (vec_items ws)
+WeightsFit (Listed ws) = AllByRecursion FitsU64 (vec_items ws)
 WeightsFit (Line g a b) = FitsU64 g × FitsU64 a.0 × FitsU64 b.0
 
 -- each number of a command fits

@@ -1,6 +1,6 @@
 // What a line of a month file asks for, and how it is written.
 ghost use Rattle.std.specs.Prelude.{◌≡◌, [], ◌∷◌, IfOk, Some, string_bytes};
-ghost use Rattle.std.specs.List.{AllByRecursion as All};
+ghost use Rattle.std.specs.List.{AllByRecursion};
 ghost use Rattle.monthfile.specs.Shown.{weights_text, command_text};
 ghost use Rattle.monthfile.specs.Fits.{FitsU64, FitsI64, WeightsFit, CommandFits};
 ghost use Rattle.monthfile.specs.Lines.{lines_of};
@@ -76,7 +76,7 @@ fn fits_signed(z: i64)
 {}
 
 fn list_fits(weights: &[u64])
-    ensures { All FitsU64 weights.now }
+    ensures { AllByRecursion FitsU64 weights.now }
 {
     for weight in weights {
         fits(*weight);

@@ -1,5 +1,5 @@
 -- The parts add up, and turn with the sign. Assumes nothing.
-use Rattle.std.proofs.Common.{◌≡◌, ℕ, zero, suc, ◌+◌, ◌-◌, ◌<◌, ◌≤◌, ◌⊎◌, List, [], ◌∷◌, map, length, get_or, ℤ, pos, negsuc, ◌+ℤ◌, neg_ℤ, nat_abs, sum, sym, refl, ap, ◌∙◌, subst, inl, inr, mul-zero, zero-mul, mul-div_cancel, add-one, arith}
+use Rattle.std.proofs.Common.{◌≡◌, ℕ, zero, suc, ◌+◌, ◌<◌, ◌≤◌, ◌⊎◌, List, [], ◌∷◌, map, length, get_or, ℤ, pos, negsuc, ◌+ℤ◌, neg_ℤ, nat_abs, sum, sym, refl, ap, ◌∙◌, subst, inl, inr, mul-zero, zero-mul, mul-div_cancel, add-one, arith}
 use mathlib.Core.List.{map-map}
 use native.Mathlib.Nat.{zero-div}
 use lib.IntN.{neg_ℤ-+ℤ, neg_ℤ-neg_ℤ}

@@ -1,5 +1,5 @@
 -- Each part is less than one away from its exact share. Assumes nothing.
-use Rattle.std.proofs.Common.{◌≡◌, ℕ, zero, suc, ◌+◌, ◌-◌, ◌*◌, ◌/◌, ◌<◌, ◌≤◌, List, ℤ, pos, ◌+ℤ◌, ◌-ℤ◌, ◌*ℤ◌, neg_ℤ, nat_abs, sum, sym, ap, ◌∙◌, subst, add-mul, zero-mul, mul-add, div-mul-le_self, arith}
+use Rattle.std.proofs.Common.{◌≡◌, ℕ, zero, suc, ◌+◌, ◌*◌, ◌/◌, ◌<◌, ◌≤◌, List, ℤ, pos, ◌-ℤ◌, ◌*ℤ◌, neg_ℤ, nat_abs, sum, sym, ap, ◌∙◌, subst, add-mul, zero-mul, mul-add, div-mul-le_self, arith}
 use native.Mathlib.Nat.{lt-div-mul-add}
 use lib.IntN.{zero-*ℤ, negsuc-*ℤ-pos, neg_ℤ-+ℤ}
 use Rattle.std.proofs.lemmas.Int.{ints}

@@ -1,5 +1,5 @@
 -- The sums of the first weights of a key, and a cursor's way over them. Assumes nothing.
-use Rattle.std.proofs.Common.{◌≡◌, ℕ, ◌+◌, ◌*◌, ◌<◌, ◌≤◌, min, ◌⊎◌, List, length, get_or, take, ℤ, sum, sym, ap, ◌∙◌, inr, ⊎_elim, add-one, arith}
+use Rattle.std.proofs.Common.{◌≡◌, ℕ, ◌+◌, ◌*◌, ◌<◌, ◌≤◌, min, List, length, get_or, take, ℤ, sum, sym, ap, ◌∙◌, inr, ⊎_elim, add-one, arith}
 use Rattle.std.proofs.lemmas.List.{take_all, take-take}
 use Rattle.std.proofs.lemmas.List.Sums.{sum_by_more, sum_by-take-le}
 use Rattle.std.proofs.ByRecursion.{sum_by_le}

@@ -1,5 +1,5 @@
 -- The running share of a size. Assumes nothing.
-use Rattle.std.proofs.Common.{ℕ, zero, suc, ◌-◌, ◌*◌, ◌/◌, ◌≤◌, mul-le-mul_left, div-le_self, div-mul-le_self, arith}
+use Rattle.std.proofs.Common.{ℕ, zero, suc, ◌*◌, ◌/◌, ◌≤◌, mul-le-mul_left, div-le_self, div-mul-le_self, arith}
 use native.Mathlib.Nat.{div-zero}
 use Rattle.std.proofs.lemmas.Nat.{le-div}
 use Rattle.spread.specs.Limits.{product_limit}

@@ -1,7 +1,7 @@
 -- That the weights of each key are within a key's limits, as the keys' ghost members say. Assumes nothing.
 use Rattle.std.specs.Prelude.{◌≡◌, ℕ, zero, suc, ◌+◌, ◌-◌, ◌*◌, ◌≤◌, min, List, [], ◌∷◌, map, length, take, refl}
 use Rattle.std.proofs.Common.{◌∙◌, arith}
-use Rattle.std.specs.List.{AllByRecursion as All}
+use Rattle.std.specs.List.{AllByRecursion}
 use Rattle.std.proofs.lemmas.Nat.{mul-le}
 use Rattle.std.proofs.lemmas.List.{length-map, length-take, length-replicate}
 use Rattle.std.proofs.ByRecursion.{All-from_get_or}
@@ -10,7 +10,7 @@ use Rattle.spread.specs.Limits.{weight_limit, most_places, hour_limit, line_limi
 use Rattle.spread.specs.Keys.{Bounded, flat, clipped, line_at, line}
 
 -- flat
-all_ones : (n : ℕ) → All (λ w. w ≤ weight_limit) (flat n)
+all_ones : (n : ℕ) → AllByRecursion (λ w. w ≤ weight_limit) (flat n)
 all_ones zero = tt
 all_ones (suc n) = (omega arith, all_ones n)
 
@@ -18,7 +18,7 @@ pub flat-bounded : (n : ℕ) → n ≤ most_places → Bounded (flat n)
 flat-bounded n h = record { few = rw (length-replicate {A = ℕ} n 1) h; small = all_ones n }
 
 -- a list of numbers
-all_clipped : (ws : List ℕ) → All (λ w. w ≤ weight_limit) (map (λ w. min w weight_limit) ws)
+all_clipped : (ws : List ℕ) → AllByRecursion (λ w. w ≤ weight_limit) (map (λ w. min w weight_limit) ws)
 all_clipped [] = tt
 all_clipped (w ∷ ws) = (omega arith, all_clipped ws)
 

@@ -1,6 +1,6 @@
 -- Keys: lists of weights, and which of them may be made. Assumes nothing.
 use Rattle.std.specs.Prelude.{ℕ, ◌+◌, ◌-◌, ◌*◌, ◌≤◌, min, Bool, false, cond, ◌||◌, List, [], ◌∷◌, map, length, take, replicate, Some, None, Option, nat_lt, slice_index}
-use Rattle.std.specs.List.{range_with_len, AllByRecursion as All}
+use Rattle.std.specs.List.{range_with_len, AllByRecursion}
 use Rattle.spread.specs.Limits.{most_places, weight_limit, hour_limit, line_limit}
 use Rattle.spread.specs.declared.fault.SpreadFault.{SpreadFault}
 use Rattle.spread.specs.declared.fault.SpreadFault.TheVariants.{NoKey}
@@ -8,7 +8,7 @@ use Rattle.spread.specs.declared.fault.SpreadFault.TheVariants.{NoKey}
 -- what every key's weights are held to
 pub record Bounded (ws : List ℕ) : Type 0 where
   pub few : length ws ≤ most_places
-  pub small : All (λ w. w ≤ weight_limit) ws
+  pub small : AllByRecursion (λ w. w ≤ weight_limit) ws
 
 -- the weight at a place: places run from 1, and elsewhere it is 0
 abbrev pub at_place : List ℕ → ℕ → ℕ

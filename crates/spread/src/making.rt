@@ -2,10 +2,10 @@
 ghost use Rattle.std.specs.Prelude.{◌≡◌};
 ghost use Rattle.spread.specs.Outcome.{MadeUnless};
 ghost use Rattle.spread.specs.Keys.{flat, line, flat_fault, list_fault, line_fault};
-ghost use Rattle.spread.specs.contracts.flat.FlatKey.TheImpl.{ghosts as flatKey};
+ghost use Rattle.spread.specs.contracts.flat.FlatKey.TheImpl.{ghosts as flat_key};
 ghost use Rattle.spread.specs.contracts.line.LineKey.TheImpl.{ghosts as line_key};
-ghost use Rattle.spread.specs.contracts.numbers.NumbersKey.TheImpl.{ghosts as numbersKey};
-ghost use Rattle.spread.specs.contracts.last_week.LastWeekKey.TheImpl.{ghosts as lastWeekKey};
+ghost use Rattle.spread.specs.contracts.numbers.NumbersKey.TheImpl.{ghosts as numbers_key};
+ghost use Rattle.spread.specs.contracts.last_week.LastWeekKey.TheImpl.{ghosts as last_week_key};
 
 use crate::fault::SpreadFault;
 use crate::flat::Flat;
@@ -17,7 +17,7 @@ use crate::units::Metered;
 
 impl Flat {
     pub fn new(count: usize) -> Result<Flat, SpreadFault>
-        ensures { MadeUnless (flat_fault count) (λ k. flatKey.weights k ≡ flat count) result }
+        ensures { MadeUnless (flat_fault count) (λ k. flat_key.weights k ≡ flat count) result }
     {
         if count > MOST_PLACES {
             return Err(SpreadFault::NoKey);
@@ -39,7 +39,7 @@ impl Line {
 
 impl<'a> Numbers<'a> {
     pub fn new(list: &'a [u64]) -> Result<Numbers<'a>, SpreadFault>
-        ensures { MadeUnless (list_fault list.now) (λ k. numbersKey.weights k ≡ list.now) result }
+        ensures { MadeUnless (list_fault list.now) (λ k. numbers_key.weights k ≡ list.now) result }
     {
         if list.len() > MOST_PLACES {
             return Err(SpreadFault::NoKey);
@@ -55,7 +55,7 @@ impl<'a> Numbers<'a> {
 
 impl<'a> LastWeek<'a> {
     pub fn new(list: &'a [u64]) -> Result<LastWeek<'a>, SpreadFault>
-        ensures { MadeUnless (list_fault list.now) (λ k. lastWeekKey.weights k ≡ list.now) result }
+        ensures { MadeUnless (list_fault list.now) (λ k. last_week_key.weights k ≡ list.now) result }
     {
         let numbers = Numbers::new(list)?;
         Ok(LastWeek { numbers })
