@@ -4,6 +4,7 @@
 use anyhow::anyhow;
 use monthfile::output::run;
 use std::io::{Read, Write};
+use std::process::ExitCode;
 use std::{env, fs};
 
 const USAGE: &str = "usage: settle [FILE]
@@ -60,10 +61,10 @@ fn start(rt: &HostRuntime) -> anyhow::Result<()> {
     settle_file(rt, word.as_str())
 }
 
-fn main(rt: HostRuntime) -> anyhow::Result<()> {
-    let ended = start(&rt);
-    if let Err(error) = &ended {
-        eprintln!(rt; "settle: {error}")?;
-    }
-    ended
+fn main(rt: HostRuntime) -> anyhow::Result<ExitCode> {
+    let Err(error) = start(&rt) else {
+        return Ok(ExitCode::SUCCESS);
+    };
+    eprintln!(rt; "settle: {error}")?;
+    Ok(ExitCode::FAILURE)
 }
