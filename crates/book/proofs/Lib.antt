@@ -3,3 +3,4 @@ pub mod Moves
 pub mod Back
 pub mod Evens
 pub mod Entries
+pub mod Made

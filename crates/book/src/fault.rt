@@ -1,8 +1,7 @@
 // Why a book does not take a posting or answer a question.
-ghost use Rattle.std.specs.Prelude.{◌≡◌};
 ghost use Rattle.book.specs.Faults.{told};
 
-use spread::fault::Layer;
+use spread::fault::{Layer, Numbered};
 
 #[derive(Clone, Copy, PartialEq, Eq, Debug)]
 pub enum BookFault {
@@ -14,10 +13,10 @@ pub enum BookFault {
     NoRoom,
 }
 
-impl BookFault {
-    pub fn number(self) -> u8
-        ensures { result ≡ (told self).number }
-    {
+impl Numbered for BookFault {
+    ghost tells = { told };
+
+    fn number(self) -> u8 {
         match self {
             BookFault::Accounts => 41,
             BookFault::OverSize => 42,
@@ -25,9 +24,7 @@ impl BookFault {
         }
     }
 
-    pub fn layer(self) -> Layer
-        ensures { result ≡ (told self).layer }
-    {
+    fn layer(self) -> Layer {
         Layer::Book
     }
 }

@@ -25,7 +25,7 @@ pub trait Book {
     fn balance(&self, account: u8) -> Result<Money, BookFault>
         ensures { result ≡ balance_told (means self.now) account };
 
-    // Takes a posting with its note, or denies it and stays as it was.
+    // Takes a posting with its note, or denies it and stays as it was. The note comes beside the posting, since by the rules no answer depends on it.
     fn post(&mut self, posting: Posting, note: Note) -> Result<(), BookFault>
         ensures answer { result ≡ verdict (means self.old) posting }
         ensures book { means self.new ≡ posted (means self.old) posting }

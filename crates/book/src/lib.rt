@@ -6,7 +6,6 @@ pub mod fault;
 pub mod journal;
 pub mod ledger;
 pub mod limits;
-mod making;
 pub mod posting;
 pub mod reversal;
 pub mod shown;

@@ -72,7 +72,7 @@ impl Posting {
         Posting {
             debit: self.credit,
             credit: self.debit,
-            size: self.size,
+            ..self
         }
     }
 }
@@ -83,11 +83,9 @@ impl Note {
         ensures { result ≡ note_back self }
     {
         Note {
-            meter: self.meter,
-            first: self.first,
-            last: self.last,
             before: self.after,
             after: self.before,
+            ..self
         }
     }
 }

@@ -6,7 +6,7 @@ use crate::fault::BookFault;
 use crate::ledger::Book;
 use crate::posting::{Note, Posting};
 
-// How a posting and then its reverse went.
+// How a posting and then its reverse went. No Result: by the rules a refusal alters nothing, and a posting that stands has altered the book.
 #[derive(Clone, Copy, PartialEq, Eq, Debug)]
 pub enum Reversal {
     // both were taken

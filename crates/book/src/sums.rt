@@ -1,50 +1,62 @@
-// What both books do: test a posting, move the sums, tell one of them.
-ghost use Rattle.std.specs.Prelude.{◌≡◌, ◌≤◌, ◌≢◌};
-ghost use Rattle.spread.specs.Outcome.{answer_of, or_else};
-ghost use Rattle.book.specs.Limits.{last_account, size_limit};
-ghost use Rattle.book.specs.Postings.{posting_fault};
-ghost use Rattle.book.specs.Sheets.{Within, moved, room_fault, balance_among};
+// What both books hold: a balance for each account, and the number of postings that are still taken.
+ghost use Rattle.std.specs.Prelude.{◌≡◌, false, is_ok};
+ghost use Rattle.book.specs.Sheets.{Sound, sheet, fresh, verdict, posted, balance_among};
 
 use crate::fault::BookFault;
-use crate::limits::{ACCOUNTS, LAST_ACCOUNT};
+use crate::limits::{ACCOUNTS, LAST_ACCOUNT, ROOM_LIMIT};
 use crate::posting::Posting;
 use spread::units::Money;
 
-// The accounts and the size of a posting are tested before the room.
-pub(crate) fn admit(posting: Posting, room: usize) -> Result<(), BookFault>
-    ensures { result ≡ answer_of (or_else (posting_fault posting) (room_fault room)) }
-{
-    posting.check()?;
-    if room == 0 {
-        return Err(BookFault::NoRoom);
-    }
-    Ok(())
+// A ghost field and no Model: both books show the fact as a law of theirs.
+#[derive(Drop)]
+pub(crate) struct Sums {
+    pub(crate) balances: [Money; ACCOUNTS],
+    // the number of postings that are still taken
+    pub(crate) room: usize,
+    ghost sound: { Sound (sheet balances room) },
 }
 
-// Moves the size of a posting from the debited sum to the credited one.
-pub(crate) fn shift(sums: &mut [Money; ACCOUNTS], posting: Posting)
-    requires debit { posting.debit ≤ last_account }
-    requires credit { posting.credit ≤ last_account }
-    requires apart { posting.debit ≢ posting.credit }
-    requires size { posting.size.0 ≤ size_limit }
-    requires wide { Within sums.old 1 }
-    ensures { sums.new ≡ moved sums.old posting }
-{
-    let debit = posting.debit as usize;
-    let credit = posting.credit as usize;
-    let size = posting.size.0 as i64;
-    let fallen = sums[debit].0 - size;
-    let risen = sums[credit].0 + size;
-    sums[debit] = Money(fallen);
-    sums[credit] = Money(risen);
-}
-
-// The sum of an account.
-pub(crate) fn balance_among(sums: &[Money; ACCOUNTS], account: u8) -> Result<Money, BookFault>
-    ensures { result ≡ balance_among sums.now account }
-{
-    if account > LAST_ACCOUNT {
-        return Err(BookFault::Accounts);
+impl Sums {
+    // A room over the limit counts as the limit.
+    pub(crate) fn new(room: usize) -> Sums
+        ensures { sheet result.balances result.room ≡ fresh room }
+    {
+        Sums {
+            balances: [Money(0); ACCOUNTS],
+            room: room.min(ROOM_LIMIT),
+        }
     }
-    Ok(sums[account as usize])
+
+    pub(crate) fn room(&self) -> usize
+        ensures { result ≡ self.now.room }
+    {
+        self.room
+    }
+
+    pub(crate) fn balance(&self, account: u8) -> Result<Money, BookFault>
+        ensures { result ≡ balance_among self.now.balances account }
+    {
+        if account > LAST_ACCOUNT {
+            return Err(BookFault::Accounts);
+        }
+        Ok(self.balances[account as usize])
+    }
+
+    // Tests the posting and then the room, and moves the size from the debited balance to the credited one.
+    pub(crate) fn post(&mut self, posting: Posting) -> Result<(), BookFault>
+        ensures answer { result ≡ verdict (sheet self.old.balances self.old.room) posting }
+        ensures book { sheet self.new.balances self.new.room
+            ≡ posted (sheet self.old.balances self.old.room) posting }
+        ensures unchanged { is_ok result ≡ false → self.new ≡ self.old }
+    {
+        posting.check()?;
+        if self.room == 0 {
+            return Err(BookFault::NoRoom);
+        }
+        let size = posting.size.0 as i64;
+        self.balances[posting.debit as usize].0 -= size;
+        self.balances[posting.credit as usize].0 += size;
+        self.room -= 1;
+        Ok(())
+    }
 }

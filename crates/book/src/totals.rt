@@ -1,44 +1,46 @@
 // The totals book: 16 sums and a count.
-ghost use Rattle.std.specs.Prelude.{◌≡◌, ◌≤◌, length};
-ghost use Rattle.book.specs.Limits.{accounts, room_limit};
-ghost use Rattle.book.specs.Sheets.{Within, sheet};
+ghost use Rattle.std.specs.Prelude.{◌≡◌};
+ghost use Rattle.book.specs.Sheets.{sheet, fresh};
 
 use crate::fault::BookFault;
 use crate::ledger::Book;
-use crate::limits::ACCOUNTS;
 use crate::posting::{Note, Posting};
-use crate::sums::{admit, balance_among, shift};
+use crate::sums::Sums;
 use spread::units::Money;
 
 #[derive(Drop)]
 pub struct Totals {
-    pub(crate) sums: [Money; ACCOUNTS],
-    // the number of postings that are still taken
-    pub(crate) left: usize,
-    ghost sixteen: { length sums ≡ accounts },
-    ghost roomy: { left ≤ room_limit },
-    ghost small: { Within sums left },
+    pub(crate) sums: Sums,
+}
+
+impl Totals {
+    // A room over the limit counts as the limit.
+    pub fn new(room: usize) -> Totals
+        ensures book { ⟦<Totals as Book>⟧.means result ≡ fresh room }
+    {
+        Totals {
+            sums: Sums::new(room),
+        }
+    }
 }
 
 impl Book for Totals {
-    ghost means = { λ t. sheet t.sums t.left };
+    ghost means = { λ t. sheet t.sums.balances t.sums.room };
 
     ghost records = { λ _ _ _ _. Unit {0} };
 
-    ghost sound = { λ t. record { sixteen = t.sixteen; roomy = t.roomy; small = t.small } };
+    ghost sound = { λ t. t.sums.sound };
 
+    // told by the sums, as a journal's are: two calls passed on
     fn room(&self) -> usize {
-        self.left
+        self.sums.room()
     }
 
     fn balance(&self, account: u8) -> Result<Money, BookFault> {
-        balance_among(&self.sums, account)
+        self.sums.balance(account)
     }
 
     fn post(&mut self, posting: Posting, note: Note) -> Result<(), BookFault> {
-        admit(posting, self.left)?;
-        shift(&mut self.sums, posting);
-        self.left -= 1;
-        Ok(())
+        self.sums.post(posting)
     }
 }

@@ -1,4 +1,5 @@
 // Books: rooms, sizes, accounts, and what a journal keeps.
+use crate::refused::refusal;
 use book::balances::balances;
 use book::fault::BookFault;
 use book::journal::Journal;
@@ -6,7 +7,7 @@ use book::ledger::Book;
 use book::posting::{BLANK_ENTRY, Entry, NO_NOTE, Note, Posting};
 use book::reversal::{Reversal, post_and_reverse};
 use book::totals::Totals;
-use spread::fault::Layer;
+use spread::fault::{Layer, Numbered};
 use spread::units::{Amount, Kwh, Money};
 use std::process::Abort;
 use std::test::Fail;
@@ -23,10 +24,7 @@ fn posting(debit: u8, credit: u8, size: u64) -> Posting {
 
 // The number of a refusal, and 0 where a posting is taken.
 fn posted<B: Book>(book: &mut B, debit: u8, credit: u8, size: u64) -> u8 {
-    match book.post(posting(debit, credit, size), NO_NOTE) {
-        Ok(()) => 0,
-        Err(fault) => fault.number(),
-    }
+    refusal(book.post(posting(debit, credit, size), NO_NOTE))
 }
 
 #[test]

@@ -1,6 +1,7 @@
 // Making keys, and what they answer.
+use crate::refused::refusal;
 use spread::estimating::EstimatingKey;
-use spread::fault::{Layer, SpreadFault};
+use spread::fault::{Layer, Numbered, SpreadFault};
 use spread::flat::Flat;
 use spread::key::Key;
 use spread::last_week::LastWeek;
@@ -8,14 +9,6 @@ use spread::line::Line;
 use spread::numbers::Numbers;
 use spread::units::Metered;
 use std::test::Fail;
-
-// The number of a refusal, and 0 where there is none.
-fn refusal<T: Drop>(made: Result<T, SpreadFault>) -> u8 {
-    match made {
-        Ok(_) => 0,
-        Err(fault) => fault.number(),
-    }
-}
 
 #[test]
 fn flat_keys(rt: HostRuntime) -> Result<(), Fail> {
@@ -74,14 +67,20 @@ fn lines_as_keys(rt: HostRuntime) -> Result<(), Fail> {
     Ok(())
 }
 
+// The value at a place and the number of its code.
+fn estimate<K: EstimatingKey>(key: &K, place: usize, known: bool) -> (Metered, u8) {
+    let (value, code) = key.estimate(place, known);
+    (value, code.into())
+}
+
 #[test]
 fn line_estimates(rt: HostRuntime) -> Result<(), Fail> {
     let key = Line::new(4, Metered(10), Metered(20))?;
-    assert_eq!(rt; key.estimate(1, false), (Metered(12), 1));
-    assert_eq!(rt; key.estimate(2, false), (Metered(14), 1));
-    assert_eq!(rt; key.estimate(3, true), (Metered(16), 3));
-    assert_eq!(rt; key.estimate(4, true), (Metered(18), 3));
-    assert_eq!(rt; key.estimate(5, false), (Metered(0), 1));
+    assert_eq!(rt; estimate(&key, 1, false), (Metered(12), 1));
+    assert_eq!(rt; estimate(&key, 2, false), (Metered(14), 1));
+    assert_eq!(rt; estimate(&key, 3, true), (Metered(16), 3));
+    assert_eq!(rt; estimate(&key, 4, true), (Metered(18), 3));
+    assert_eq!(rt; estimate(&key, 5, false), (Metered(0), 1));
     Ok(())
 }
 
@@ -90,9 +89,9 @@ fn last_week_estimates(rt: HostRuntime) -> Result<(), Fail> {
     assert_eq!(rt; refusal(LastWeek::new(&[10_000_000_001])), 34);
     let key = LastWeek::new(&[5, 0, 8])?;
     assert_eq!(rt; key.len(), 3);
-    assert_eq!(rt; key.estimate(1, false), (Metered(5), 2));
-    assert_eq!(rt; key.estimate(3, true), (Metered(8), 4));
-    assert_eq!(rt; key.estimate(4, true), (Metered(0), 4));
+    assert_eq!(rt; estimate(&key, 1, false), (Metered(5), 2));
+    assert_eq!(rt; estimate(&key, 3, true), (Metered(8), 4));
+    assert_eq!(rt; estimate(&key, 4, true), (Metered(0), 4));
     Ok(())
 }
 

@@ -1,19 +1,11 @@
 // Spreading, above zero and below, at the edges, and refused.
+use crate::refused::refusal;
 use spread::cursor::Cursor;
-use spread::fault::SpreadFault;
 use spread::flat::Flat;
 use spread::numbers::Numbers;
 use spread::spreading::spread;
 use spread::units::Kwh;
 use std::test::Fail;
-
-// The number of a refusal, and 0 where there is none.
-fn refusal(done: Result<(), SpreadFault>) -> u8 {
-    match done {
-        Ok(()) => 0,
-        Err(fault) => fault.number(),
-    }
-}
 
 #[test]
 fn added_and_taken_off(rt: HostRuntime) -> Result<(), Fail> {

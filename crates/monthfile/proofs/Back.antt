@@ -1,49 +1,41 @@
 -- What is written of a command is read as that command. Assumes nothing.
-use Rattle.std.proofs.Common.{◌≡◌, ℕ, suc, ◌+◌, ◌<◌, ◌≤◌, Bool, true, false, cond, not, ◌&&◌, eqb, List, [], ◌∷◌, ◌++◌, map, length, get_or, take, drop, ℤ, pos, negsuc, neg_ℤ, Ok, Err, vec_items, codes, decimal, sym, refl, ap, ◌∙◌, append_assoc, append-nil, arith}
+use Rattle.std.proofs.Common.{◌≡◌, ℕ, suc, ◌+◌, ◌<◌, ◌≤◌, true, false, cond, eqb, List, [], ◌∷◌, ◌++◌, map, length, get_or, ℤ, pos, negsuc, Ok, vec_items, codes, decimal, sym, refl, ap, ◌∙◌, append_assoc, append-nil, arith}
 use lib.Seq.{take-append_seam, drop-append_seam}
-use Rattle.std.specs.List.{flat_map, prefix_len, AllByRecursion}
+use Rattle.std.specs.List.{flat_map, prefix_len, list_all, AllByRecursion}
 use Rattle.std.specs.Char.{is_ascii_digit}
 use Rattle.std.specs.Fmt.{signed_decimal}
-use Rattle.std.specs.Str.{all_ascii_digits}
 use Rattle.std.proofs.lemmas.Fmt.{digits_decimal, digits_value-decimal, decimal_nonempty}
 use Rattle.std.proofs.lemmas.Str.Parse.{digit_at}
-use Rattle.std.proofs.lemmas.Bool.{and_parts, and_from, le-leb}
+use Rattle.std.proofs.lemmas.Bool.{and_parts}
 use Rattle.std.proofs.lemmas.Bool.Decides.{nat_tests}
-use Rattle.monthfile.specs.declared.fault.LineFault.TheVariants.{NotANumber, DoesNotFit}
 use Rattle.monthfile.specs.declared.command.Command.{Command}
 use Rattle.monthfile.specs.declared.command.Command.TheVariants.{Spread}
 use Rattle.monthfile.specs.declared.command.Weights.{Weights}
 use Rattle.monthfile.specs.declared.command.Weights.TheVariants.{Flat, List as Listed, Line}
-use Rattle.monthfile.specs.Words.{ink, words_of}
-use Rattle.monthfile.specs.Numbers.{widest, highest, lowest_size, minus, read_on, within, number_in, map_ok, signed_in}
+use Rattle.monthfile.specs.Words.{blank, words_of}
+use Rattle.monthfile.specs.Numbers.{widest, highest, lowest_size, minus, number_in, signed_in}
 use Rattle.monthfile.specs.Said.{say_list, say_spread, said_key, said}
 use Rattle.monthfile.specs.Commands.{and_then, took, numbers_on, key_of}
 use Rattle.monthfile.specs.Meaning.{asks, outcome, meant_by, line_of}
 use Rattle.monthfile.specs.Shown.{weight_text, weights_text, command_text}
 use Rattle.monthfile.specs.Fits.{FitsU64, FitsI64, WeightsFit, CommandFits}
-use Rattle.monthfile.proofs.Cuts.{first_word}
-use Rattle.monthfile.proofs.Digits.{own}
+use Rattle.monthfile.proofs.Cuts.{ink, word_from}
+use Rattle.monthfile.proofs.Digits.{own, digits_pass}
 use Rattle.monthfile.proofs.Plain.{plain_command, plain-commentless}
-
--- the number of its digits
-some_length : (k : ℕ) → 0 < k → not (eqb k 0) ≡ true
-some_length k h = grind (arith, nat_tests)
 
 number_back : (limit n : ℕ) → n ≤ limit → FitsU64 n → number_in limit (decimal n) ≡ Ok n
 number_back limit n h small =
-    ap (λ t. cond t (within limit (read_on 0 (decimal n))) (Err NotANumber)) (and_from _ _ (some_length _ (decimal_nonempty n small)) (digits_decimal own n small))
-    ∙ ap (within limit) (digits_value-decimal own n small)
-    ∙ ap (λ t. cond t (Ok n) (Err DoesNotFit)) (le-leb n limit h)
+    let digits = digits_decimal own n small in
+    let value = digits_value-decimal own n small in
+    let some = decimal_nonempty n small in
+    grind (arith, nat_tests)
 
 took_back : (n : ℕ) (ws : List (List ℕ)) → FitsU64 n → took widest (decimal n ∷ ws) ≡ Ok (n, ws)
-took_back n ws small = ap (λ r. and_then r (λ k. Ok (k, ws))) (number_back widest n (omega arith) small)
+took_back n ws small = rw (number_back widest n (omega arith) small) refl
 
 numbers_back : (ns ws : List ℕ) → AllByRecursion FitsU64 ws → numbers_on ns (map decimal ws) ≡ Ok (ns ++ ws)
-numbers_back ns [] fit = ap (λ (l : List ℕ). Ok l) (sym (append-nil ns))
-numbers_back ns (w ∷ ws) fit =
-    ap (λ r. and_then r (λ n. numbers_on (ns ++ n ∷ []) (map decimal ws))) (number_back widest w (omega (arith, fit.0)) fit.0)
-    ∙ numbers_back (ns ++ w ∷ []) ws fit.1
-    ∙ ap (λ (l : List ℕ). Ok l) (append_assoc ns (w ∷ []) ws)
+numbers_back ns [] fit = rw append-nil refl
+numbers_back ns (w ∷ ws) fit = rw (number_back widest w (omega (arith, fit.0)) fit.0, numbers_back (ns ++ w ∷ []) ws fit.1, append_assoc) refl
 
 not_minus : (n : ℕ) → FitsU64 n → eqb (get_or (decimal n) 0 0) minus ≡ false
 not_minus n small =
@@ -52,45 +44,38 @@ not_minus n small =
     grind (arith, nat_tests)
 
 signed_back : (z : ℤ) → FitsI64 z → signed_in (signed_decimal z) ≡ Ok z
-signed_back (pos n) h =
-    ap (λ t. cond t (map_ok (λ k. neg_ℤ (pos k)) (number_in lowest_size (drop 1 (decimal n)))) (map_ok pos (number_in highest (decimal n)))) (not_minus n (omega arith))
-    ∙ ap (map_ok pos) (number_back highest n (omega arith) (omega arith))
-signed_back (negsuc n) h = ap (map_ok (λ k. neg_ℤ (pos k))) (number_back lowest_size (suc n) (omega arith) (omega arith))
-
--- a word with no blank in it
-abbrev inked : List ℕ → Bool
-inked [] = true
-inked (c ∷ cs) = ink c && inked cs
+signed_back (pos n) h = rw (not_minus n (omega arith), number_back highest n (omega arith) (omega arith)) refl
+signed_back (negsuc n) h = rw (number_back lowest_size (suc n) (omega arith) (omega arith)) refl
 
 digit_ink : (c : ℕ) → is_ascii_digit c ≡ true → ink c ≡ true
 digit_ink c h = grind (arith, nat_tests)
 
-inked-digits : (cs : List ℕ) → all_ascii_digits cs ≡ true → inked cs ≡ true
-inked-digits [] h = refl
-inked-digits (c ∷ cs) h =
-    let p = and_parts (is_ascii_digit c) (all_ascii_digits cs) h in
-    ap (λ t. t && inked cs) (digit_ink c p.0) ∙ inked-digits cs p.1
+-- no blank in the digits of a number
+decimal_ink : (n : ℕ) → FitsU64 n → list_all ink (decimal n) ≡ true
+decimal_ink n small = digits_pass ink digit_ink (decimal n) (digits_decimal own n small)
 
-leading_word : (w r : List ℕ) → inked w ≡ true → prefix_len ink r ≡ 0 → prefix_len ink (w ++ r) ≡ length w
+leading_word : (w r : List ℕ) → list_all ink w ≡ true → prefix_len ink r ≡ 0 → prefix_len ink (w ++ r) ≡ length w
 leading_word [] r d h = h
 leading_word (c ∷ w) r d h =
-    let p = and_parts (ink c) (inked w) d in
+    let p = and_parts (ink c) (list_all ink w) d in
     ap (λ t. cond t (1 + prefix_len ink (w ++ r)) 0) p.0 ∙ omega (arith, leading_word w r p.1 h)
 
-word_then : (w r : List ℕ) → inked w ≡ true → 0 < length w → prefix_len ink r ≡ 0 → words_of (w ++ r) ≡ w ∷ words_of r
-word_then w r d some h =
-    let n = leading_word w r d h in
-    first_word (w ++ r) (omega (arith, n)) ∙ ap (λ m. take m (w ++ r) ∷ words_of (drop m (w ++ r))) n ∙ (λ i. take-append_seam w r i ∷ words_of (drop-append_seam w r i))
+word_then : (w r : List ℕ) → list_all ink w ≡ true → 0 < length w → prefix_len ink r ≡ 0 → words_of (w ++ r) ≡ w ∷ words_of r
+word_then [] r d some h = absurd (omega arith)
+word_then (c ∷ w) r d some h =
+    let p = and_parts (ink c) (list_all ink w) d in
+    let solid : blank c ≡ false = grind (arith, nat_tests) in
+    word_from c (w ++ r) solid ∙ rw (leading_word w r p.1 h, take-append_seam w r, drop-append_seam w r) refl
 
 decimal_then : (n : ℕ) (r : List ℕ) → FitsU64 n → prefix_len ink r ≡ 0 → words_of (decimal n ++ r) ≡ decimal n ∷ words_of r
-decimal_then n r small h = word_then (decimal n) r (inked-digits (decimal n) (digits_decimal own n small)) (decimal_nonempty n small) h
+decimal_then n r small h = word_then (decimal n) r (decimal_ink n small) (decimal_nonempty n small) h
 
 decimal_last : (n : ℕ) → FitsU64 n → words_of (decimal n) ≡ decimal n ∷ []
 decimal_last n small = ap words_of (sym (append-nil (decimal n))) ∙ decimal_then n [] small refl
 
 signed_then : (z : ℤ) (r : List ℕ) → FitsI64 z → prefix_len ink r ≡ 0 → words_of (signed_decimal z ++ r) ≡ signed_decimal z ∷ words_of r
 signed_then (pos n) r h e = decimal_then n r (omega arith) e
-signed_then (negsuc n) r h e = word_then (45 ∷ decimal (suc n)) r (inked-digits (decimal (suc n)) (digits_decimal own (suc n) (omega arith))) (omega arith) e
+signed_then (negsuc n) r h e = word_then (45 ∷ decimal (suc n)) r (decimal_ink (suc n) (omega arith)) (omega arith) e
 
 -- a list begins with a space or is empty
 starts_blank : (ws : List ℕ) → prefix_len ink (flat_map weight_text ws) ≡ 0

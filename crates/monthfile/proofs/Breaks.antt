@@ -1,40 +1,64 @@
 -- A text from its front: up to a line break, up to a comment. Assumes nothing.
-use Rattle.std.proofs.Common.{◌≡◌, ℕ, ◌+◌, ◌<◌, Bool, true, false, cond, not, eqb, List, [], ◌∷◌, length, take, drop, sym, refl, ap, ◌∙◌, arith}
-use Rattle.std.specs.List.{prefix_len}
+use Rattle.std.proofs.Common.{◌≡◌, ℕ, ◌+◌, ◌<◌, ◌≤◌, Bool, true, false, cond, eqb, List, [], ◌∷◌, length, take, drop, Some, None, sym, refl, ap, ◌∙◌, add_comm, arith}
+use Rattle.std.specs.List.{position, position_or_len}
+use Rattle.std.proofs.lemmas.List.{drop_all, take_all}
 use Rattle.monthfile.specs.Words.{onto}
-use Rattle.monthfile.specs.Lines.{line_break, comment_mark, other, lines_of, commentless}
-use Rattle.monthfile.proofs.Cuts.{take_next, drop_next}
+use Rattle.monthfile.specs.Lines.{line_break, comment_mark, lines_of, commentless}
+use Rattle.monthfile.proofs.Cuts.{take_next, drop_next, found, not_found}
 
-pub uncommented_take : (bs : List ℕ) → take (prefix_len (other comment_mark) bs) bs ≡ commentless bs
-uncommented_take [] = refl
-uncommented_take (b ∷ bs) = go (uncommented_take bs) (eqb b comment_mark)
+-- how far the comment is
+abbrev said-length : List ℕ → ℕ
+said-length bs = position_or_len (λ b. eqb b comment_mark) bs
+
+before_comment : (bs : List ℕ) → take (said-length bs) bs ≡ commentless bs
+before_comment [] = refl
+before_comment (b ∷ bs) = go (before_comment bs) (eqb b comment_mark) refl
   where
-    go : take (prefix_len (other comment_mark) bs) bs ≡ commentless bs → (t : Bool) → take (cond (not t) (1 + prefix_len (other comment_mark) bs) 0) (b ∷ bs) ≡ cond t [] (b ∷ commentless bs)
-    go ih true = refl
-    go ih false = take_next b bs (prefix_len (other comment_mark) bs) ∙ ap (λ (r : List ℕ). b ∷ r) ih
+    go : take (said-length bs) bs ≡ commentless bs → (t : Bool) → eqb b comment_mark ≡ t → take (said-length (b ∷ bs)) (b ∷ bs) ≡ commentless (b ∷ bs)
+    go ih true e = rw e refl
+    go ih false e = rw (e, take_next b bs (said-length bs), ih) refl
+
+pub comment_at : (bs : List ℕ) (n : ℕ) → position (λ b. eqb b comment_mark) bs ≡ Some n → take n bs ≡ commentless bs
+comment_at bs n h = ap (λ k. take k bs) (sym (found _ bs n h)) ∙ before_comment bs
+
+pub no_comment_at : (bs : List ℕ) → position (λ b. eqb b comment_mark) bs ≡ None → bs ≡ commentless bs
+no_comment_at bs h = sym (take_all (said-length bs) bs (omega (arith, not_found _ bs h))) ∙ before_comment bs
 
 -- how long the first line is
-abbrev pub first-length : List ℕ → ℕ
-first-length bs = prefix_len (other line_break) bs
+abbrev first-length : List ℕ → ℕ
+first-length bs = position_or_len (λ b. eqb b line_break) bs
 
 -- bs begins with a line, and its break is passed over
-abbrev pub BeginsLine : List ℕ → Type 0
-BeginsLine bs = lines_of bs ≡ take (first-length bs) bs ∷ lines_of (drop 1 (drop (first-length bs) bs))
+abbrev BeginsLine : List ℕ → Type 0
+BeginsLine bs = lines_of bs ≡ take (first-length bs) bs ∷ lines_of (drop (1 + first-length bs) bs)
 
-pub first_line : (bs : List ℕ) → 0 < length bs → BeginsLine bs
-first_line [] h = let z : ⊥ = omega arith in absurd z
-first_line (b ∷ []) h = go (eqb b line_break)
+first_line : (bs : List ℕ) → 0 < length bs → BeginsLine bs
+first_line [] some = absurd (omega arith)
+first_line (b ∷ []) some = go (eqb b line_break) refl
   where
-    go : (t : Bool) → cond t ([] ∷ []) (onto b []) ≡ take (cond (not t) (1 + 0) 0) (b ∷ []) ∷ lines_of (drop 1 (drop (cond (not t) (1 + 0) 0) (b ∷ [])))
-    go true = refl
-    go false = refl
-first_line (b ∷ c ∷ cs) h = go (first-length (c ∷ cs)) (first_line (c ∷ cs) (omega arith)) (eqb b line_break)
+    go : (t : Bool) → eqb b line_break ≡ t → BeginsLine (b ∷ [])
+    go true e = rw e refl
+    go false e = rw e refl
+first_line (b ∷ c ∷ cs) some = go (first_line (c ∷ cs) (omega arith)) (eqb b line_break) refl
   where
-    go : (n : ℕ) → lines_of (c ∷ cs) ≡ take n (c ∷ cs) ∷ lines_of (drop 1 (drop n (c ∷ cs))) → (t : Bool) → cond t ([] ∷ lines_of (c ∷ cs)) (onto b (lines_of (c ∷ cs))) ≡ take (cond (not t) (1 + n) 0) (b ∷ c ∷ cs) ∷ lines_of (drop 1 (drop (cond (not t) (1 + n) 0) (b ∷ c ∷ cs)))
-    go n ih true = refl
-    go n ih false =
-        ap (onto b) ih ∙ sym (ap (λ (w : List ℕ). w ∷ lines_of (drop 1 (drop (1 + n) (b ∷ c ∷ cs)))) (take_next b (c ∷ cs) n) ∙ ap (λ (r : List ℕ). (b ∷ take n (c ∷ cs)) ∷ lines_of (drop 1 r)) (drop_next b (c ∷ cs) n))
+    go : BeginsLine (c ∷ cs) → (t : Bool) → eqb b line_break ≡ t → BeginsLine (b ∷ c ∷ cs)
+    go ih true e = rw e refl
+    go ih false e =
+        let n = first-length (c ∷ cs) in
+        rw (e, take_next b (c ∷ cs) n, drop_next b (c ∷ cs) (1 + n)) (ap (onto b) ih)
 
-pub no_line : (bs : List ℕ) → length bs ≡ 0 → lines_of bs ≡ []
-no_line [] h = refl
-no_line (b ∷ bs) h = let z : ⊥ = omega arith in absurd z
+pub line_at : (bs : List ℕ) (n : ℕ) → 0 < length bs → position (λ b. eqb b line_break) bs ≡ Some n → lines_of bs ≡ take n bs ∷ lines_of (drop (n + 1) bs)
+line_at bs n some h = first_line bs some ∙ rw (found _ bs n h, add_comm 1 n) refl
+
+pub line_whole : (bs : List ℕ) → 0 < length bs → position (λ b. eqb b line_break) bs ≡ None → lines_of bs ≡ bs ∷ []
+line_whole bs some h = first_line bs some ∙ rw (not_found _ bs h, take_all (length bs) bs (omega arith), drop_all (1 + length bs) bs (omega arith)) refl
+
+-- no more lines than bytes
+pub few_lines : (bs : List ℕ) → length (lines_of bs) ≤ length bs
+few_lines [] = omega arith
+few_lines (b ∷ bs) = go (lines_of bs) (few_lines bs) (eqb b line_break)
+  where
+    go : (ls : List (List ℕ)) → length ls ≤ length bs → (t : Bool) → length (cond t ([] ∷ ls) (onto b ls)) ≤ length (b ∷ bs)
+    go ls h true = omega arith
+    go [] h false = omega arith
+    go (l ∷ ls) h false = omega arith

@@ -1,7 +1,5 @@
 pub mod Cuts
 pub mod Breaks
 pub mod Digits
-pub mod Texts
 pub mod Plain
 pub mod Back
-pub mod Memory

@@ -1,12 +1,12 @@
 -- What is written of a command is plain: small letters, digits, minus signs and spaces. Assumes nothing.
-use Rattle.std.proofs.Common.{◌≡◌, ℕ, suc, Bool, true, false, cond, ◌&&◌, ◌||◌, eqb, leb, List, [], ◌∷◌, ◌++◌, ℤ, pos, negsuc, vec_items, decimal, refl, ap, ◌∙◌, arith}
-use Rattle.std.specs.List.{flat_map, AllByRecursion}
+use Rattle.std.proofs.Common.{◌≡◌, ℕ, suc, Bool, true, false, ◌&&◌, ◌||◌, eqb, leb, List, [], ◌∷◌, ◌++◌, ℤ, pos, negsuc, vec_items, decimal, refl, ap, ◌∙◌, arith}
+use Rattle.std.specs.List.{flat_map, list_all, AllByRecursion}
 use Rattle.std.specs.Char.{is_ascii_digit}
 use Rattle.std.specs.Fmt.{signed_decimal}
-use Rattle.std.specs.Str.{all_ascii_digits}
 use Rattle.std.proofs.lemmas.Fmt.{digits_decimal}
 use Rattle.std.proofs.lemmas.Bool.{and_parts, and_from, or_left}
 use Rattle.std.proofs.lemmas.Bool.Decides.{nat_tests}
+use Rattle.std.proofs.lemmas.List.Folds.{list_all-append}
 use Rattle.monthfile.specs.declared.command.Command.{Command}
 use Rattle.monthfile.specs.declared.command.Command.TheVariants.{Spread}
 use Rattle.monthfile.specs.declared.command.Weights.{Weights}
@@ -15,29 +15,19 @@ use Rattle.monthfile.specs.Words.{onto}
 use Rattle.monthfile.specs.Lines.{line_break, comment_mark, lines_of, commentless}
 use Rattle.monthfile.specs.Shown.{weight_text, weights_text, command_text}
 use Rattle.monthfile.specs.Fits.{FitsU64, FitsI64, WeightsFit, CommandFits}
-use Rattle.monthfile.proofs.Digits.{own}
+use Rattle.monthfile.proofs.Digits.{own, digits_pass}
 
 abbrev plain : ℕ → Bool
 plain b = is_ascii_digit b || ((leb 97 b && leb b 122) || (eqb b 32 || eqb b 45))
 
 abbrev plain_text : List ℕ → Bool
-plain_text [] = true
-plain_text (b ∷ bs) = plain b && plain_text bs
+plain_text bs = list_all plain bs
 
 plain-append : (xs bs : List ℕ) → plain_text xs ≡ true → plain_text bs ≡ true → plain_text (xs ++ bs) ≡ true
-plain-append [] bs h k = k
-plain-append (x ∷ xs) bs h k =
-    let p = and_parts (plain x) (plain_text xs) h in
-    and_from (plain x) (plain_text (xs ++ bs)) p.0 (plain-append xs bs p.1 k)
-
-plain-digits : (cs : List ℕ) → all_ascii_digits cs ≡ true → plain_text cs ≡ true
-plain-digits [] h = refl
-plain-digits (c ∷ cs) h =
-    let p = and_parts (is_ascii_digit c) (all_ascii_digits cs) h in
-    and_from (plain c) (plain_text cs) (or_left (is_ascii_digit c) _ p.0) (plain-digits cs p.1)
+plain-append xs bs h k = list_all-append plain xs bs ∙ and_from _ _ h k
 
 plain-decimal : (n : ℕ) → FitsU64 n → plain_text (decimal n) ≡ true
-plain-decimal n small = plain-digits (decimal n) (digits_decimal own n small)
+plain-decimal n small = digits_pass plain (λ c d. or_left (is_ascii_digit c) _ d) (decimal n) (digits_decimal own n small)
 
 plain-signed : (z : ℤ) → FitsI64 z → plain_text (signed_decimal z) ≡ true
 plain-signed (pos n) h = plain-decimal n (omega arith)
@@ -64,17 +54,17 @@ pub plain-commentless : (bs : List ℕ) → plain_text bs ≡ true → commentle
 plain-commentless [] h = refl
 plain-commentless (b ∷ bs) h =
     let p = and_parts (plain b) (plain_text bs) h in
-    ap (λ t. cond t [] (b ∷ commentless bs)) (no_comment b p.0) ∙ ap (λ (l : List ℕ). b ∷ l) (plain-commentless bs p.1)
+    rw (no_comment b p.0, plain-commentless bs p.1) refl
 
 -- and is one line
 no_break : (b : ℕ) → plain b ≡ true → eqb b line_break ≡ false
 no_break b h = grind (arith, nat_tests)
 
 pub plain-line : (b : ℕ) (bs : List ℕ) → plain_text (b ∷ bs) ≡ true → lines_of (b ∷ bs) ≡ (b ∷ bs) ∷ []
-plain-line b [] h = ap (λ t. cond t ([] ∷ []) ((b ∷ []) ∷ [])) (no_break b (and_parts (plain b) true h).0)
+plain-line b [] h = rw (no_break b (and_parts (plain b) true h).0) refl
 plain-line b (c ∷ cs) h =
     let p = and_parts (plain b) (plain_text (c ∷ cs)) h in
-    ap (λ t. cond t ([] ∷ lines_of (c ∷ cs)) (onto b (lines_of (c ∷ cs)))) (no_break b p.0) ∙ ap (onto b) (plain-line c cs p.1)
+    rw (no_break b p.0) (ap (onto b) (plain-line c cs p.1))
 
 -- a command is one line
 pub one_line : (c : Command) → CommandFits c → lines_of (command_text c) ≡ command_text c ∷ []

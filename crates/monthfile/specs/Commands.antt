@@ -11,6 +11,11 @@ abbrev pub and_then : {A B : Type 0} → Result A LineFault → (A → Result B 
 and_then (Ok a) k = k a
 and_then (Err e) k = Err e
 
+-- the first word, and the words after it
+abbrev pub took_word : List (List ℕ) → Result (List ℕ × List (List ℕ)) LineFault
+took_word [] = Err TooFewWords
+took_word (w ∷ ws) = Ok (w, ws)
+
 -- the number in the first word, and the words after it
 abbrev pub took : ℕ → List (List ℕ) → Result (ℕ × List (List ℕ)) LineFault
 took limit [] = Err TooFewWords

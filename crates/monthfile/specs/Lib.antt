@@ -1,5 +1,4 @@
 pub mod Faults
-pub mod Parts
 pub mod Words
 pub mod Lines
 pub mod Numbers

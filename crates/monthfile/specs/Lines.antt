@@ -1,5 +1,5 @@
 -- The lines of a text, and a line without its comment. Assumes nothing.
-use Rattle.std.specs.Prelude.{ℕ, Bool, cond, not, List, [], ◌∷◌, ◌==◌}
+use Rattle.std.specs.Prelude.{ℕ, cond, List, [], ◌∷◌, ◌==◌}
 use Rattle.monthfile.specs.Words.{onto}
 
 -- the byte that ends a line
@@ -9,10 +9,6 @@ line_break = 10
 -- the byte that starts a comment
 abbrev pub comment_mark : ℕ
 comment_mark = 35
-
--- any byte but m
-abbrev pub other : ℕ → ℕ → Bool
-other m b = not (b == m)
 
 -- the lines of a text; the last one needs no line break
 abbrev pub lines_of : List ℕ → List (List ℕ)

@@ -1,5 +1,5 @@
 -- The words of a line. Assumes nothing.
-use Rattle.std.specs.Prelude.{ℕ, Bool, cond, not, ◌||◌, List, [], ◌∷◌, ◌==◌}
+use Rattle.std.specs.Prelude.{ℕ, Bool, cond, ◌||◌, List, [], ◌∷◌, ◌==◌}
 
 -- the byte of a space
 abbrev pub space : ℕ
@@ -16,10 +16,6 @@ carriage_return = 13
 -- what stands between words
 abbrev pub blank : ℕ → Bool
 blank b = b == space || (b == tab || b == carriage_return)
-
--- any other byte
-abbrev pub ink : ℕ → Bool
-ink b = not (blank b)
 
 -- b in front of the first of ws
 abbrev pub onto : ℕ → List (List ℕ) → List (List ℕ)

@@ -2,7 +2,7 @@
 ghost use Rattle.std.specs.Prelude.{◌≡◌, [], ◌∷◌, IfOk, Some, string_bytes};
 ghost use Rattle.std.specs.List.{AllByRecursion};
 ghost use Rattle.monthfile.specs.Shown.{weights_text, command_text};
-ghost use Rattle.monthfile.specs.Fits.{FitsU64, FitsI64, WeightsFit, CommandFits};
+ghost use Rattle.monthfile.specs.Fits.{FitsU64, CommandFits};
 ghost use Rattle.monthfile.specs.Lines.{lines_of};
 ghost use Rattle.monthfile.specs.Said.{said};
 ghost use Rattle.monthfile.specs.Meaning.{asks, line_of};
@@ -39,16 +39,12 @@ impl fmt::Display for Weights {
             Weights::Flat(count) => write!(f, "flat {count}"),
             Weights::List(weights) => {
                 f.write_str("list")?;
-                for weight in weights.as_slice() {
+                for weight in weights {
                     write!(f, " {weight}")?;
                 }
                 Ok(())
             }
-            Weights::Line { gap, before, after } => {
-                let before = before.0;
-                let after = after.0;
-                write!(f, "line {gap} {before} {after}")
-            }
+            Weights::Line { gap, before, after } => write!(f, "line {gap} {before} {after}"),
         }
     }
 }
@@ -57,54 +53,26 @@ impl fmt::Display for Command {
     ghost output = { λ c. Some (command_text c) };
 
     fn fmt<W: fmt::Write>(&self, f: &mut fmt::Formatter<W>) -> fmt::Result {
-        match self {
-            Command::Spread { total, over } => {
-                let energy = total.0;
-                write!(f, "spread {energy} {over}")
-            }
-        }
+        let Command::Spread { total, over } = self;
+        write!(f, "spread {total} {over}")
     }
 }
 
-// A number is known to fit its type only where code holds it, so each number of a command is handed to one of these two.
-fn fits(n: u64)
-    ensures { FitsU64 n }
+// A number is known to fit its type only where code reads it or takes it in a slice, so these two do that with each number of a command.
+fn all_fit(numbers: &[u64])
+    ensures { AllByRecursion FitsU64 numbers.now }
 {}
-
-fn fits_signed(z: i64)
-    ensures { FitsI64 z }
-{}
-
-fn list_fits(weights: &[u64])
-    ensures { AllByRecursion FitsU64 weights.now }
-{
-    for weight in weights {
-        fits(*weight);
-    }
-}
-
-fn weights_fit(over: &Weights)
-    ensures { WeightsFit over.now }
-{
-    match over {
-        Weights::Flat(count) => fits(*count),
-        Weights::List(weights) => list_fits(weights.as_slice()),
-        Weights::Line { gap, before, after } => {
-            fits(*gap);
-            fits(before.0);
-            fits(after.0);
-        }
-    }
-}
 
 fn command_fits(command: &Command)
     ensures { CommandFits command.now }
 {
-    match command {
-        Command::Spread { total, over } => {
-            fits_signed(total.0);
-            weights_fit(over);
-        }
+    let Command::Spread { total, over } = command;
+    // read, so that it is known to fit
+    let _total = total.0;
+    match over {
+        Weights::Flat(count) => all_fit(&[*count]),
+        Weights::List(weights) => all_fit(weights),
+        Weights::Line { gap, before, after } => all_fit(&[*gap, before.0, after.0]),
     }
 }
 

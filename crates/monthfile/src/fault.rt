@@ -2,6 +2,7 @@
 ghost use Rattle.std.specs.Prelude.{◌≡◌, Some};
 ghost use Rattle.monthfile.specs.Faults.{fault_text};
 
+use std::error::Error;
 use std::fmt;
 
 #[derive(Clone, Copy, PartialEq, Eq, Debug)]
@@ -14,11 +15,12 @@ pub enum LineFault {
     TooManyWords,
     // a word that is not digits, or has none
     NotANumber,
-    // digits whose number is over the limit of what it counts
+    // digits whose number is out of the range of its type
     DoesNotFit,
 }
 
 impl LineFault {
+    // Beside the `Display`, which writes them: text that may be held, as no `Display` is.
     pub fn words(self) -> &'static str
         ensures { result.now ≡ fault_text self }
     {
@@ -33,6 +35,7 @@ impl LineFault {
     }
 }
 
+// Written by hand, since no contract says what a derived text is.
 impl fmt::Display for LineFault {
     ghost output = { λ f. Some (fault_text f) };
 
@@ -40,3 +43,5 @@ impl fmt::Display for LineFault {
         f.write_str(self.words())
     }
 }
+
+impl Error for LineFault {}

@@ -8,5 +8,5 @@ mod lines;
 mod number;
 pub mod output;
 pub mod read;
-mod scan;
+pub mod stop;
 mod words;

@@ -1,34 +1,68 @@
 // The lines of a text, and a line without its comment.
 ghost use Rattle.std.specs.Prelude.{◌≡◌};
-ghost use Rattle.monthfile.specs.Parts.{First, Shorter};
+ghost use Rattle.std.specs.Iterator.{YieldsFirstRef, item_count};
 ghost use Rattle.monthfile.specs.Lines.{lines_of, commentless};
 
-use crate::scan::{Other, front};
+use std::marker::Model;
 
 const LINE_BREAK: u8 = b'\n';
 
 const COMMENT: u8 = b'#';
 
-// The first line and what follows its line break.
-pub fn next_line(text: &[u8]) -> Option<(&[u8], &[u8])>
-    ensures lines { First lines_of text.now result }
-    ensures shorter { Shorter text.now result }
-{
-    if text.is_empty() {
-        return None;
+// The lines that are left of a text. It is alike to `Words` but for what is cut and where; one struct over a trait that says so would be longer than both.
+#[derive(Drop)]
+pub struct Lines<'a> {
+    left: &'a [u8],
+}
+
+impl<'a> Model for Lines<'a> {
+    ghost use Rattle.std.specs.Prelude.{ℕ, List};
+    ghost use Rattle.monthfile.specs.Lines.{lines_of};
+
+    ghost Value = { List (List ℕ) };
+
+    ghost view = { λ l. lines_of l.left.now };
+}
+
+impl<'a> Lines<'a> {
+    pub fn new(text: &'a [u8]) -> Lines<'a>
+        ensures { result ≡ lines_of text.now }
+    {
+        Lines { left: text }
     }
-    let (line, rest) = text.split_at(front(&Other(LINE_BREAK), text));
-    if rest.is_empty() {
-        return Some((line, rest));
+}
+
+impl<'a> Iterator for Lines<'a> {
+    type Item = &'a [u8];
+
+    ghost next_gives = { YieldsFirstRef (λ l. l) };
+
+    ghost remaining = { item_count (λ l. l) };
+
+    fn next(&mut self) -> Option<&'a [u8]> {
+        let text = self.left;
+        if text.is_empty() {
+            return None;
+        }
+        match text.iter().position(|b| *b == LINE_BREAK) {
+            Some(end) => {
+                self.left = &text[end + 1..];
+                Some(&text[..end])
+            }
+            None => {
+                self.left = &[];
+                Some(text)
+            }
+        }
     }
-    let (_, rest) = rest.split_at(1);
-    Some((line, rest))
 }
 
 // The line up to its comment.
 pub fn uncommented(line: &[u8]) -> &[u8]
-    ensures value { result.now ≡ commentless line.now }
+    ensures { result.now ≡ commentless line.now }
 {
-    let (said, _) = line.split_at(front(&Other(COMMENT), line));
-    said
+    match line.iter().position(|b| *b == COMMENT) {
+        Some(end) => &line[..end],
+        None => line,
+    }
 }

@@ -4,12 +4,12 @@ ghost use Rattle.monthfile.specs.Lines.{lines_of};
 ghost use Rattle.monthfile.specs.Meaning.{line_of};
 ghost use Rattle.monthfile.specs.Output.{line_text, mistaken_line, has_words, output_of, mistaken_in, some_words};
 
-use crate::answer::Answer;
-use crate::lines::next_line;
-use crate::read::{LineMeaning, read_line};
+use crate::lines::Lines;
+use crate::read::read_line;
+use crate::stop::Stop;
 use std::alloc::{AllocError, Global};
 
-// What a month file is answered with.
+// What a month file is answered with. By the rules every line is answered, a mistaken one too, so the text stands whatever the flag says.
 #[derive(Drop)]
 pub struct Output {
     pub text: String,
@@ -18,31 +18,20 @@ pub struct Output {
 }
 
 // The answer to the line of a number, and its line break; nothing for a line without words, which takes no memory.
-fn line_answer(heap: Global, number: u64, line: &[u8]) -> Result<Output, AllocError>
+fn line_answer(heap: Global, number: usize, line: &[u8]) -> Result<Output, AllocError>
     ensures text { IfOk result (λ o. (string_bytes o.text ≡ line_text number line.now) × (o.mistaken ≡ mistaken_line line.now)) }
     ensures memory { is_ok result ≡ false → has_words (line_of line.now) ≡ true }
 {
-    match read_line(heap, line)? {
-        LineMeaning::Blank => Ok(Output {
-            text: String::new(heap),
-            mistaken: false,
-        }),
-        LineMeaning::Asks(command) => {
+    let (text, mistaken) = match read_line(heap, line) {
+        Ok(None) => (String::new(heap), false),
+        Ok(Some(command)) => {
             let answer = command.answer(heap)?;
-            let text = format!(in heap; "{number}: {answer}\n")?;
-            Ok(Output {
-                text,
-                mistaken: false,
-            })
+            (format!(in heap; "{number}: {answer}\n")?, false)
         }
-        LineMeaning::Mistaken(fault) => {
-            let text = format!(in heap; "{number}: error: {fault}\n")?;
-            Ok(Output {
-                text,
-                mistaken: true,
-            })
-        }
-    }
+        Err(Stop::Fault(fault)) => (format!(in heap; "{number}: error: {fault}\n")?, true),
+        Err(Stop::NoMemory(error)) => return Err(error),
+    };
+    Ok(Output { text, mistaken })
 }
 
 // Answers every line of a month file. One without words takes no memory.
@@ -52,14 +41,10 @@ pub fn run(heap: Global, file: &[u8]) -> Result<Output, AllocError>
 {
     let mut text = String::new(heap);
     let mut mistaken = false;
-    let mut rest = file;
-    let mut number: u64 = 0;
-    while let Some((line, after)) = next_line(rest) {
-        number += 1;
-        let answered = line_answer(heap, number, line)?;
-        text.push_str(answered.text.as_str())?;
-        mistaken = mistaken || answered.mistaken;
-        rest = after;
+    for (index, line) in Lines::new(file).enumerate() {
+        let answered = line_answer(heap, index + 1, line)?;
+        text.push_str(&answered.text)?;
+        mistaken |= answered.mistaken;
     }
     Ok(Output { text, mistaken })
 }

@@ -34,7 +34,7 @@ fn settle(rt: &HostRuntime, file: &[u8]) -> anyhow::Result<()> {
 
 fn settle_file(rt: &HostRuntime, path: &str) -> anyhow::Result<()> {
     match fs::read(rt, path) {
-        Ok(file) => settle(rt, file.as_slice()),
+        Ok(file) => settle(rt, &file),
         Err(error) => Err(anyhow!(format!(in rt.alloc(); "cannot read {path}: {error}")?)),
     }
 }
@@ -42,12 +42,11 @@ fn settle_file(rt: &HostRuntime, path: &str) -> anyhow::Result<()> {
 fn settle_input(rt: &HostRuntime) -> anyhow::Result<()> {
     let mut file = Vec::new(rt.alloc());
     rt.stdin().read_to_end(&mut file)?;
-    settle(rt, file.as_slice())
+    settle(rt, &file)
 }
 
 fn start(rt: &HostRuntime) -> anyhow::Result<()> {
-    let mut words = env::args(rt)?;
-    let _program = words.next();
+    let mut words = env::args(rt)?.skip(1);
     let Some(word) = words.next() else {
         return settle_input(rt);
     };
@@ -58,7 +57,7 @@ fn start(rt: &HostRuntime) -> anyhow::Result<()> {
         rt.stdout().write_all(USAGE.as_bytes())?;
         return Ok(());
     }
-    settle_file(rt, word.as_str())
+    settle_file(rt, &word)
 }
 
 fn main(rt: HostRuntime) -> anyhow::Result<ExitCode> {

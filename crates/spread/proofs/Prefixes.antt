@@ -1,8 +1,7 @@
 -- The sums of the first weights of a key, and a cursor's way over them. Assumes nothing.
-use Rattle.std.proofs.Common.{◌≡◌, ℕ, ◌+◌, ◌*◌, ◌<◌, ◌≤◌, min, List, length, get_or, take, ℤ, sum, sym, ap, ◌∙◌, inr, ⊎_elim, add-one, arith}
+use Rattle.std.proofs.Common.{◌≡◌, ℕ, ◌+◌, ◌-◌, ◌*◌, ◌<◌, ◌≤◌, min, List, length, get_or, take, ℤ, sum, sym, ap, ◌∙◌, subst, inr, ⊎_elim, add-one, arith}
 use Rattle.std.proofs.lemmas.List.{take_all, take-take}
-use Rattle.std.proofs.lemmas.List.Sums.{sum_by_more, sum_by-take-le}
-use Rattle.std.proofs.ByRecursion.{sum_by_le}
+use Rattle.std.proofs.lemmas.List.Sums.{sum_by_more, sum_by-take-le, sum_by-le}
 use Rattle.std.proofs.lemmas.Bool.{cases_lt}
 use Rattle.spread.specs.Limits.{weight_limit, most_places}
 use Rattle.spread.specs.Keys.{Bounded, at_place}
@@ -29,8 +28,12 @@ upto_more ws i = ⊎_elim
     (λ (h : length ws ≤ i). omega (arith, upto_all ws i h, upto_all ws (i + 1) (omega arith), place_outside ws (i + 1) (inr (omega arith))))
     (cases_lt i (length ws))
 
+-- the same, counted in places
+pub upto_at : (ws : List ℕ) (k : ℕ) → 1 ≤ k → upto ws k ≡ upto ws (k - 1) + at_place ws k
+upto_at ws k h = let e : k - 1 + 1 ≡ k = omega arith in subst (λ j. upto ws j ≡ upto ws (k - 1) + at_place ws j) e (upto_more ws (k - 1))
+
 pub sum_small : (ws : List ℕ) → Bounded ws → sum ws ≤ most_places * weight_limit
-sum_small ws b = omega (arith, sum_by_le (λ x. x) weight_limit ws b.small, b.few)
+sum_small ws b = omega (arith, sum_by-le (λ x. x) weight_limit ws b.small, b.few)
 
 -- the weight that a cursor reads after i places
 weight_read : (ws : List ℕ) (i : ℕ) → Bounded ws → at_place ws (min i most_places + 1) ≡ at_place ws (i + 1)

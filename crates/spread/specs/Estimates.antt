@@ -1,5 +1,7 @@
 -- The value and the code that an estimating key gives. Assumes nothing.
 use Rattle.std.specs.Prelude.{ℕ, ◌+◌, ◌/◌, Bool, cond, List, length}
+use Rattle.spread.specs.declared.estimating.Code.{Code}
+use Rattle.spread.specs.declared.estimating.Code.TheVariants.{Line, LastWeek, LineKnown, LastWeekKnown}
 use Rattle.spread.specs.Keys.{at_place}
 
 -- a line of g weights: the weight divided by g + 1, the fraction dropped
@@ -10,10 +12,17 @@ line_value ws k = at_place ws k / (length ws + 1)
 abbrev pub week_value : List ℕ → ℕ → ℕ
 week_value ws k = at_place ws k
 
--- the code of the line: 1 without a known energy, 3 with one
-abbrev pub line_code : Bool → ℕ
-line_code known = cond known 3 1
+-- the code of the line, without a known energy and with one
+abbrev pub line_code : Bool → Code
+line_code known = cond known LineKnown Line
 
--- the code of last week: 2 without, 4 with
-abbrev pub week_code : Bool → ℕ
-week_code known = cond known 4 2
+-- the code of last week
+abbrev pub week_code : Bool → Code
+week_code known = cond known LastWeekKnown LastWeek
+
+-- the number of a code
+abbrev pub code_number : Code → ℕ
+code_number Line = 1
+code_number LastWeek = 2
+code_number LineKnown = 3
+code_number LastWeekKnown = 4

@@ -1,6 +1,6 @@
 -- Keys: lists of weights, and which of them may be made. Assumes nothing.
-use Rattle.std.specs.Prelude.{ℕ, ◌+◌, ◌-◌, ◌*◌, ◌≤◌, min, Bool, false, cond, ◌||◌, List, [], ◌∷◌, map, length, take, replicate, Some, None, Option, nat_lt, slice_index}
-use Rattle.std.specs.List.{range_with_len, AllByRecursion}
+use Rattle.std.specs.Prelude.{ℕ, ◌+◌, ◌-◌, ◌*◌, ◌≤◌, min, Bool, cond, ◌||◌, List, ◌∷◌, map, length, take, replicate, Some, None, Option, nat_lt, slice_index}
+use Rattle.std.specs.List.{range_with_len, All, list_any}
 use Rattle.spread.specs.Limits.{most_places, weight_limit, hour_limit, line_limit}
 use Rattle.spread.specs.declared.fault.SpreadFault.{SpreadFault}
 use Rattle.spread.specs.declared.fault.SpreadFault.TheVariants.{NoKey}
@@ -8,7 +8,7 @@ use Rattle.spread.specs.declared.fault.SpreadFault.TheVariants.{NoKey}
 -- what every key's weights are held to
 pub record Bounded (ws : List ℕ) : Type 0 where
   pub few : length ws ≤ most_places
-  pub small : AllByRecursion (λ w. w ≤ weight_limit) ws
+  pub small : All (λ w. w ≤ weight_limit) ws
 
 -- the weight at a place: places run from 1, and elsewhere it is 0
 abbrev pub at_place : List ℕ → ℕ → ℕ
@@ -16,8 +16,7 @@ at_place ws k = slice_index (0 ∷ ws) k
 
 -- some weight is over its limit
 abbrev pub heavy : List ℕ → Bool
-heavy [] = false
-heavy (w ∷ ws) = nat_lt weight_limit w || heavy ws
+heavy ws = list_any (nat_lt weight_limit) ws
 
 -- n weights, each 1
 abbrev pub flat : ℕ → List ℕ
@@ -27,7 +26,7 @@ flat n = replicate n 1
 abbrev pub flat_fault : ℕ → Option SpreadFault
 flat_fault n = cond (nat_lt most_places n) (Some NoKey) None
 
--- the first 745 of a list of numbers, none over its limit
+-- the first 745 of any list of numbers, none over its limit
 abbrev pub clipped : List ℕ → List ℕ
 clipped ws = map (λ w. min w weight_limit) (take most_places ws)
 

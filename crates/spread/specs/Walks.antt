@@ -2,7 +2,6 @@
 use Rattle.std.specs.Prelude.{◌≡◌, ℕ, ◌+◌, ◌-◌, min, List, ℤ, sum, unsigned_abs}
 use Rattle.spread.specs.Limits.{most_places}
 use Rattle.spread.specs.declared.sign.Sign.{Sign}
-use Rattle.spread.specs.declared.cursor.Cursor.{Cursor}
 use Rattle.spread.specs.Keys.{at_place}
 use Rattle.spread.specs.Signs.{sign_of, put}
 use Rattle.spread.specs.Shares.{upto, running, part}
@@ -14,10 +13,6 @@ pub record Walk : Type 0 where
   pub whole : ℕ
   pub passed : ℕ
   pub place : ℕ
-
--- how far a cursor of the code has come
-abbrev pub walk_of : Cursor → Walk
-walk_of c = record { size = c.size; sign = c.sign; whole = c.whole; passed = c.passed; place = c.place }
 
 -- the sum of the weights passed once the next is; it never leaves the whole, whatever key is handed in
 abbrev pub onward : List ℕ → Walk → ℕ

@@ -10,7 +10,6 @@ pub mod key;
 pub mod last_week;
 pub mod limits;
 pub mod line;
-mod making;
 pub mod numbers;
 pub mod sign;
 pub mod spreading;

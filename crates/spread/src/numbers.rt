@@ -1,29 +1,49 @@
 // A list of numbers as a key, over a slice that the caller lends.
-ghost use Rattle.spread.specs.Keys.{clipped};
-ghost use Rattle.spread.specs.Bounds.{clipped-bounded};
+ghost use Rattle.std.specs.Prelude.{◌≡◌};
+ghost use Rattle.spread.specs.Keys.{Bounded, list_fault};
+ghost use Rattle.spread.specs.Outcome.{MadeUnless};
 
+use crate::fault::SpreadFault;
 use crate::key::Key;
 use crate::limits::{MOST_PLACES, WEIGHT_LIMIT};
 
-// Only a list within the limits is made into one, so that nothing of it is clipped.
 #[derive(Clone, Copy)]
 pub struct Numbers<'a> {
-    pub(crate) list: &'a [u64],
+    list: &'a [u64],
+    ghost bounded: { Bounded list.now },
+}
+
+impl<'a> Numbers<'a> {
+    pub fn new(list: &'a [u64]) -> Result<Numbers<'a>, SpreadFault>
+        ensures { MadeUnless (list_fault list.now) (λ k. ⟦<Numbers<'a> as Key>⟧.weights k ≡ list.now) result }
+    {
+        if list.len() > MOST_PLACES {
+            return Err(SpreadFault::NoKey);
+        }
+        // a for over the elements, by the rules of the product
+        for weight in list {
+            if *weight > WEIGHT_LIMIT {
+                return Err(SpreadFault::NoKey);
+            }
+        }
+        Ok(Numbers { list })
+    }
 }
 
 impl Key for Numbers<'_> {
-    ghost weights = { λ k. clipped k.list.now };
+    ghost weights = { λ k. k.list.now };
 
-    ghost bounded = { λ k. clipped-bounded k.list.now };
+    ghost bounded = { λ k. k.bounded };
 
     fn len(&self) -> usize {
-        self.list.len().min(MOST_PLACES)
+        self.list.len()
     }
 
     fn weight(&self, place: usize) -> u64 {
-        if place == 0 || place > self.len() {
-            return 0;
-        }
-        self.list[place - 1].min(WEIGHT_LIMIT)
+        place
+            .checked_sub(1)
+            .and_then(|i| self.list.get(i))
+            .copied()
+            .unwrap_or(0)
     }
 }

@@ -9,7 +9,7 @@ use crate::fault::SpreadFault;
 use crate::key::Key;
 use crate::units::Kwh;
 
-// Writes the parts of a total over a key into a list as long as the key.
+// Writes the parts of a total over a key into a list as long as the key. Key and total come apart: a struct of both would only be taken apart again.
 pub fn spread<K: Key>(key: &K, total: Kwh, parts: &mut [Kwh]) -> Result<(), SpreadFault>
     ensures answer { result ≡ answer_of (spread_fault total.0 (K.weights key.now) (length parts.old)) }
     ensures parts { parts.new ≡ unless_fault (spread_fault total.0 (K.weights key.now) (length parts.old)) parts.old (share total.0 (K.weights key.now)) }

@@ -1,6 +1,9 @@
-// The units: energy, price and money. One product joins them, and nothing adds one to another.
-ghost use Rattle.std.specs.Prelude.{◌≡◌};
+// The units: energy, price and money. One product joins them, and nothing adds one to another. Each is a struct by the rules of the product, and not one generic over its unit.
+ghost use Rattle.std.specs.Prelude.{◌≡◌, Some, decimal};
+ghost use Rattle.std.specs.Fmt.{signed_decimal};
 ghost use Rattle.spread.specs.Units.{money_of};
+
+use std::fmt;
 
 // Energy in kWh, with a sign: above 0 where it is generated or added, below 0 where it is drawn or taken off.
 #[derive(Clone, Copy, PartialEq, Eq, Debug)]
@@ -27,9 +30,33 @@ impl Price {
     pub fn times(self, energy: Kwh) -> Option<Money>
         ensures { result ≡ money_of self.0 energy.0 }
     {
-        match self.0.checked_mul(energy.0) {
-            Some(product) => Some(Money(product)),
-            None => None,
-        }
+        self.0.checked_mul(energy.0).map(Money)
+    }
+}
+
+impl fmt::Display for Kwh {
+    ghost output = { λ e. Some (signed_decimal e.0) };
+
+    fn fmt<W: fmt::Write>(&self, f: &mut fmt::Formatter<W>) -> fmt::Result {
+        let Kwh(energy) = self;
+        energy.fmt(f)
+    }
+}
+
+impl fmt::Display for Metered {
+    ghost output = { λ e. Some (decimal e.0) };
+
+    fn fmt<W: fmt::Write>(&self, f: &mut fmt::Formatter<W>) -> fmt::Result {
+        let Metered(reading) = self;
+        reading.fmt(f)
+    }
+}
+
+impl fmt::Display for Amount {
+    ghost output = { λ m. Some (decimal m.0) };
+
+    fn fmt<W: fmt::Write>(&self, f: &mut fmt::Formatter<W>) -> fmt::Result {
+        let Amount(size) = self;
+        size.fmt(f)
     }
 }

@@ -1,12 +1,14 @@
-use Rattle.std.proofs.Common.{rules}
-use Rattle.monthfile.proofs.Digits.{digits_bad, digits_more, digits_end}
+use Rattle.std.proofs.Common.{◌≡◌, rules, tests}
+use Rattle.std.specs.Char.{is_ascii_digit}
+use Rattle.std.specs.List.{list_all}
+use Rattle.std.proofs.lemmas.Iterator.{YieldsList-from_slice}
+use Rattle.std.proofs.lemmas.Iterator.Search.{all_from_yields_List}
+use Rattle.monthfile.proofs.Digits.{all_digits}
 use Rattle.monthfile.proofs.number.is_numeral.Goals as goal
 
-pub returns-then-not-is_ascii_digit : goal.returns-then-not-is_ascii_digit
-returns-then-not-is_ascii_digit c = search (rules, digits_bad)
-
-pub loop-b-preserved : goal.loop-b-preserved
-loop-b-preserved c = search (rules, digits_more)
-
-pub returns : goal.returns
-returns c = search (rules, digits_end)
+pub returns-then-not-is_empty : goal.returns-then-not-is_empty
+returns-then-not-is_empty c =
+    let word = c.args.word.now in
+    let all : c.all.result ≡ list_all is_ascii_digit word = all_from_yields_List is_ascii_digit _ _ c.all.result c.all.ensures.ran (YieldsList-from_slice word cc) (λ x b q k. search (rules, tests)) in
+    let same = all_digits word in
+    grind (rules, tests)

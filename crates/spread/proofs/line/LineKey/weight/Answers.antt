@@ -1,5 +1,4 @@
-use Rattle.std.proofs.Common.{sym, inl, inr, arith, rules}
-use Rattle.spread.specs.Bounds.{line_small}
+use Rattle.std.proofs.Common.{sym, inl, inr, arith}
 use Rattle.spread.proofs.Weights.{line_within, line_outside}
 use Rattle.spread.proofs.line.LineKey.weight.Goals as goal
 use Rattle.spread.proofs.line.LineKey.weight.Goals.{then-place-eq0-via-then-place-eq0, then-place-eq0-via-else-place-eq0+then-place-self}
@@ -8,10 +7,6 @@ pub returns-then-place-eq0 : goal.returns-then-place-eq0
 returns-then-place-eq0 c = let k = c.args.self.now in
     sym (line_outside k.gap k.before.0 k.after.0 c.args.place
     (elim c.then-place-eq0.branch [ then-place-eq0-via-then-place-eq0 w ↦ inl (omega arith) | then-place-eq0-via-else-place-eq0+then-place-self w ↦ inr (omega arith) ]))
-
-pub overflow_add-result-2 : goal.overflow_add-result-2
-overflow_add-result-2 c = let k = c.args.self.now in
-    let h = line_small k.gap k.before.0 k.after.0 c.args.place k.short k.low k.high (omega arith) in search rules
 
 pub returns : goal.returns
 returns c = let k = c.args.self.now in sym (line_within k.gap k.before.0 k.after.0 c.args.place (omega arith) (omega arith))

@@ -1,6 +1,6 @@
-use Rattle.std.proofs.Common.{◌≡◌, drop}
-use Rattle.spread.specs.Keys.{heavy}
+use Rattle.std.proofs.Common.{ℕ, ◌<◌, ◌≤◌, get_or}
+use Rattle.spread.specs.Limits.{weight_limit}
 use Rattle.spread.proofs.numbers.Numbers.new.Given as goal
 
 abbrev pub invariant-loop-weight : goal.invariant-loop-weight
-invariant-loop-weight l = heavy (drop l.weight-index l.list) ≡ heavy l.list
+invariant-loop-weight l = (k : ℕ) → k < l.weight-index → get_or l.list k 0 ≤ weight_limit
