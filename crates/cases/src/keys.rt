@@ -1,6 +1,7 @@
 // Making keys, and what they answer.
+use crate::other_key::Sevens;
 use crate::refused::refusal;
-use spread::estimating::EstimatingKey;
+use spread::estimating::{Code, EstimatingKey};
 use spread::fault::{Layer, Numbered, SpreadFault};
 use spread::flat::Flat;
 use spread::key::Key;
@@ -92,6 +93,18 @@ fn last_week_estimates(rt: HostRuntime) -> Result<(), Fail> {
     assert_eq!(rt; estimate(&key, 1, false), (Metered(5), 2));
     assert_eq!(rt; estimate(&key, 3, true), (Metered(8), 4));
     assert_eq!(rt; estimate(&key, 4, true), (Metered(0), 4));
+    Ok(())
+}
+
+#[test]
+fn estimates_of_another_key(rt: HostRuntime) -> Result<(), Fail> {
+    let key = Sevens {
+        hours: Flat::new(2)?,
+    };
+    assert_eq!(rt; estimate(&key, 1, false), (Metered(7), 5));
+    assert_eq!(rt; estimate(&key, 2, true), (Metered(7), 6));
+    assert_eq!(rt; u8::from(Code::Other(0)), 0);
+    assert_eq!(rt; u8::from(Code::Other(u8::MAX)), 255);
     Ok(())
 }
 

@@ -10,6 +10,8 @@ mod lent;
 #[cfg(test)]
 mod month_files;
 #[cfg(test)]
+mod other_key;
+#[cfg(test)]
 mod refused;
 #[cfg(test)]
 mod spreads;

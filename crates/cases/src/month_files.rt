@@ -1,8 +1,12 @@
 // Month files and what they are answered with.
 use monthfile::command::{Command, Weights, written};
+use monthfile::fault::LineFault;
 use monthfile::output::run;
 use monthfile::read::read_line;
+use monthfile::stop::Stop;
 use spread::units::{Kwh, Metered};
+use std::alloc::{AllocError, Global};
+use std::error::Error;
 use std::process::Abort;
 use std::test::Fail;
 
@@ -209,6 +213,26 @@ fn long_lines(rt: HostRuntime) -> Result<(), Fail> {
     answered(&rt, blanks.as_slice(), "", false)?;
     let noise = vec![in heap; 255; 100_000]?;
     answered(&rt, noise.as_slice(), "1: error: unknown command\n", true)
+}
+
+// What an error is written as.
+fn error_text<E: Error>(heap: Global, error: &E) -> Result<String, AllocError> {
+    format!(in heap; "{error}")
+}
+
+#[test]
+fn stops(rt: HostRuntime) -> Result<(), Fail> {
+    let heap = rt.alloc();
+    match read_line(heap, b"spread 1 flat x") {
+        Ok(_) => return Err(Fail::new("read")),
+        Err(stop) => assert_eq!(rt; error_text(heap, &stop)?.as_str(), "not a number"),
+    }
+    let wanting: Stop<LineFault> = Stop::NoMemory(AllocError);
+    assert_eq!(rt;
+        error_text(heap, &wanting)?.as_str(),
+        "memory allocation failed"
+    );
+    Ok(())
 }
 
 // The line of a command, and whether it is read again as one.

@@ -90,6 +90,20 @@ fn cursor_past_the_end(rt: HostRuntime) -> Result<(), Fail> {
 }
 
 #[test]
+fn cursor_tells_its_place(rt: HostRuntime) -> Result<(), Fail> {
+    let key = Flat::new(745)?;
+    let mut cursor = Cursor::new(&key, Kwh(745))?;
+    assert_eq!(rt; cursor.place(), 0);
+    assert_eq!(rt; cursor.next_part(&key), Kwh(1));
+    assert_eq!(rt; cursor.place(), 1);
+    for _ in 0..745 {
+        cursor.next_part(&key);
+    }
+    assert_eq!(rt; cursor.place(), 745);
+    Ok(())
+}
+
+#[test]
 fn cursor_with_another_key(rt: HostRuntime) -> Result<(), Fail> {
     let key = Flat::new(2)?;
     let heavy = Numbers::new(&[10_000_000_000, 1])?;

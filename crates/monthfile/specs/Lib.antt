@@ -8,5 +8,6 @@ pub mod Said
 pub mod Commands
 pub mod Meaning
 pub mod Reading
+pub mod Stops
 pub mod Replies
 pub mod Output

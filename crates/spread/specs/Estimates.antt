@@ -1,7 +1,7 @@
 -- The value and the code that an estimating key gives. Assumes nothing.
 use Rattle.std.specs.Prelude.{ℕ, ◌+◌, ◌/◌, Bool, cond, List, length}
 use Rattle.spread.specs.declared.estimating.Code.{Code}
-use Rattle.spread.specs.declared.estimating.Code.TheVariants.{Line, LastWeek, LineKnown, LastWeekKnown}
+use Rattle.spread.specs.declared.estimating.Code.TheVariants.{Line, LastWeek, LineKnown, LastWeekKnown, Other}
 use Rattle.spread.specs.Keys.{at_place}
 
 -- a line of g weights: the weight divided by g + 1, the fraction dropped
@@ -26,3 +26,4 @@ code_number Line = 1
 code_number LastWeek = 2
 code_number LineKnown = 3
 code_number LastWeekKnown = 4
+code_number (Other n) = n

@@ -1,6 +1,6 @@
 -- A cursor over the places of a key. Assumes nothing.
-use Rattle.std.specs.Prelude.{◌≡◌, ℕ, ◌+◌, ◌-◌, min, List, ℤ, sum, unsigned_abs}
-use Rattle.spread.specs.Limits.{most_places}
+use Rattle.std.specs.Prelude.{◌≡◌, ℕ, ◌+◌, ◌-◌, ◌*◌, ◌^◌, ◌<◌, ◌≤◌, min, List, ℤ, sum, unsigned_abs}
+use Rattle.spread.specs.Limits.{product_limit, most_places}
 use Rattle.spread.specs.declared.sign.Sign.{Sign}
 use Rattle.spread.specs.Keys.{at_place}
 use Rattle.spread.specs.Signs.{sign_of, put}
@@ -13,6 +13,14 @@ pub record Walk : Type 0 where
   pub whole : ℕ
   pub passed : ℕ
   pub place : ℕ
+
+-- what holds of every cursor, whatever keys it was handed
+pub record Kept (w : Walk) : Type 0 where
+  pub limit : w.size * w.whole ≤ product_limit
+  pub within : w.passed ≤ w.whole
+  pub counted : w.place ≤ most_places
+  pub size_fits : w.size < 2 ^ 64
+  pub whole_fits : w.whole < 2 ^ 64
 
 -- the sum of the weights passed once the next is; it never leaves the whole, whatever key is handed in
 abbrev pub onward : List ℕ → Walk → ℕ

@@ -2,7 +2,7 @@
 ghost use Rattle.std.specs.Prelude.{◌≡◌, ◌≤◌, sum, unsigned_abs};
 ghost use Rattle.spread.specs.Outcome.{MadeUnless};
 ghost use Rattle.spread.specs.Shares.{running, size_fault};
-ghost use Rattle.spread.specs.Walks.{next_part, advanced, walked, Follows};
+ghost use Rattle.spread.specs.Walks.{Kept, next_part, advanced, walked, Follows};
 
 use crate::fault::SpreadFault;
 use crate::key::Key;
@@ -84,6 +84,17 @@ impl Cursor {
         self.passed = onward;
         self.place = (self.place + 1).min(MOST_PLACES);
         self.sign.put(high - low)
+    }
+
+    // How many places are passed, steps past a key's last counted too, 745 at most. Whoever asks knows what holds of every cursor.
+    pub fn place(&self) -> usize
+        ensures place { result ≡ self.now.place }
+        ensures kept { Kept self.now }
+    {
+        // read, so that they are known to fit
+        let _size = self.size;
+        let _whole = self.whole;
+        self.place
     }
 
     // The running share of the size at a prefix of the whole, the fraction dropped.

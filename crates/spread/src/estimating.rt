@@ -17,6 +17,8 @@ pub enum Code {
     LastWeek,
     LineKnown,
     LastWeekKnown,
+    // the number of a code that another crate's key has
+    Other(u8),
 }
 
 impl From<Code> for u8 {
@@ -28,6 +30,7 @@ impl From<Code> for u8 {
             Code::LastWeek => 2,
             Code::LineKnown => 3,
             Code::LastWeekKnown => 4,
+            Code::Other(number) => number,
         }
     }
 }

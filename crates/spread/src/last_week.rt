@@ -1,6 +1,6 @@
 // The numbers of last week, as weights and as values.
-ghost use Rattle.std.specs.Prelude.{◌≡◌};
-ghost use Rattle.spread.specs.Keys.{list_fault};
+ghost use Rattle.std.specs.Prelude.{◌≡◌, IfOk};
+ghost use Rattle.spread.specs.Keys.{clipped, list_fault};
 ghost use Rattle.spread.specs.Outcome.{MadeUnless};
 
 use crate::fault::SpreadFault;
@@ -15,7 +15,8 @@ pub struct LastWeek<'a> {
 
 impl<'a> LastWeek<'a> {
     pub fn new(list: &'a [u64]) -> Result<LastWeek<'a>, SpreadFault>
-        ensures { MadeUnless (list_fault list.now) (λ k. ⟦<LastWeek<'a> as Key>⟧.weights k ≡ list.now) result }
+        ensures made { MadeUnless (list_fault list.now) (λ k. ⟦<LastWeek<'a> as Key>⟧.weights k ≡ list.now) result }
+        ensures clipped { IfOk result (λ k. ⟦<LastWeek<'a> as Key>⟧.weights k ≡ clipped list.now) }
     {
         let numbers = Numbers::new(list)?;
         Ok(LastWeek { numbers })

@@ -1,6 +1,6 @@
 // A list of numbers as a key, over a slice that the caller lends.
-ghost use Rattle.std.specs.Prelude.{◌≡◌};
-ghost use Rattle.spread.specs.Keys.{Bounded, list_fault};
+ghost use Rattle.std.specs.Prelude.{◌≡◌, IfOk};
+ghost use Rattle.spread.specs.Keys.{Bounded, clipped, list_fault};
 ghost use Rattle.spread.specs.Outcome.{MadeUnless};
 
 use crate::fault::SpreadFault;
@@ -14,8 +14,10 @@ pub struct Numbers<'a> {
 }
 
 impl<'a> Numbers<'a> {
+    // Of a list that is made a key nothing is clipped.
     pub fn new(list: &'a [u64]) -> Result<Numbers<'a>, SpreadFault>
-        ensures { MadeUnless (list_fault list.now) (λ k. ⟦<Numbers<'a> as Key>⟧.weights k ≡ list.now) result }
+        ensures made { MadeUnless (list_fault list.now) (λ k. ⟦<Numbers<'a> as Key>⟧.weights k ≡ list.now) result }
+        ensures clipped { IfOk result (λ k. ⟦<Numbers<'a> as Key>⟧.weights k ≡ clipped list.now) }
     {
         if list.len() > MOST_PLACES {
             return Err(SpreadFault::NoKey);
